@@ -1,7 +1,7 @@
 -- Tickets that any proxy may learn whose batch read below their versions.
 use Rattle.std.specs.Prelude.{ℕ, suc, List}
 use Rattle.fdb_sequencer.specs.TicketLaws.{AreRisingUpTo, GoToResolvers}
-use Rattle.fdb_sequencer.specs.Moves.{Dated}
+use Rattle.fdb_sequencer.specs.declared.dated.Dated.{Dated}
 use Rattle.fdb_sequencer.specs.declared.ticket.Ticket.{Ticket}
 
 -- the moves go to the first resolver, at versions that rise up to this one

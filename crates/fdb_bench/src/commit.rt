@@ -10,7 +10,7 @@ use fdb_keys::{Items, KeyRange, Refusal};
 use fdb_log::LogAck;
 use fdb_proxy::{CommitCore, Config};
 use fdb_resolver::{Part, Verdict, Verdicts};
-use fdb_sequencer::Ticket;
+use fdb_sequencer::{Dated, Ticket};
 use fdb_txn::{Move, RESOLVER_LIMIT, Sealed, TxnId, WINDOW};
 use rand_pcg::Pcg32;
 use std::alloc::Global;
@@ -158,18 +158,14 @@ fn commit_timed<R: Clock>(
 }
 
 // The move to the first resolver at the version, if there is one.
-fn moves_of(
-    alloc: Global,
-    version: u64,
-    range: Option<KeyRange>,
-) -> Result<Items<(u64, Items<Move>)>, Refusal>
+fn moves_of(alloc: Global, version: u64, range: Option<KeyRange>) -> Result<Items<Dated>, Refusal>
     ensures { IfOk result (AreMovesOf version) }
 {
     let mut dated = Items::new(alloc);
     if let Some(range) = range {
         let mut moves = Items::new(alloc);
         moves.push(Move { range, to: 0 })?;
-        dated.push((version, moves))?;
+        dated.push(Dated { version, moves })?;
     }
     Ok(dated)
 }

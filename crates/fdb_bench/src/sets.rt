@@ -7,7 +7,7 @@ use std::time::{Clock, Duration, Instant};
 
 /// How long a new set takes for so many ranges at once, each of one random key. They are made outside of that time.
 pub(crate) fn measure<R: Clock>(rt: &R, alloc: Global, count: u32) -> Result<Duration, Fault> {
-    let ranges = ranges_of(alloc, count)?;
+    let ranges = make_ranges(alloc, count)?;
     let mut set = RangeSet::new(alloc);
     let begin = Instant::now(rt)?;
     set.add_all(ranges)?;
@@ -16,7 +16,7 @@ pub(crate) fn measure<R: Clock>(rt: &R, alloc: Global, count: u32) -> Result<Dur
 }
 
 // So many ranges, each of one random key.
-fn ranges_of(alloc: Global, count: u32) -> Result<Vec<KeyRange>, Refusal> {
+fn make_ranges(alloc: Global, count: u32) -> Result<Vec<KeyRange>, Refusal> {
     let mut random = Pcg32::new(1, 1);
     let mut ranges = Vec::new(alloc);
     for _range in 0..count {

@@ -1,4 +1,5 @@
 pub mod Exports
+mod EntryLemmas
 mod JudgedLemmas
 mod JudgingLemmas
 mod ReplayLemmas

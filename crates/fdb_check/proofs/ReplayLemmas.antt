@@ -19,8 +19,9 @@ use Rattle.fdb_txn.proofs.Exports.{mutations-if}
 use Rattle.fdb_proxy.specs.declared.outcome.Outcome.{Outcome}
 use Rattle.fdb_proxy.specs.Logging.{is_commit}
 use Rattle.fdb_proxy.specs.Verdicts.{outcome_at, outcomes_from}
+use Rattle.fdb_proxy.proofs.Exports.{commit-at}
 use Rattle.fdb_roles.specs.Bodies.{body_by}
-use Rattle.fdb_roles.proofs.Exports.{commit-at, take-next}
+use Rattle.fdb_roles.proofs.Exports.{take-next}
 use Rattle.fdb_check.specs.Running.{map_after}
 
 -- mutations one after another

@@ -22,10 +22,11 @@ use Rattle.fdb_proxy.specs.Logging.{is_commit}
 use Rattle.fdb_proxy.specs.Verdicts.{moves_through, outcomes_on, outcome_at}
 use Rattle.fdb_client.specs.declared.program.Transcript.{Transcript}
 use Rattle.fdb_client.specs.Programs.{commit_request_of}
+use Rattle.fdb_proxy.proofs.Exports.{commit-at}
 use Rattle.fdb_roles.specs.Spots.{AnsweredOn, WroteNothing, IsSerializedAt, IsReadOnlyAt, IsSerializedAtSpot}
 use Rattle.fdb_roles.specs.Spots.{IsSerialized}
 use Rattle.fdb_roles.specs.declared.placed.Placed.{Placed}
-use Rattle.fdb_roles.proofs.Exports.{entries-rising, map-between, commit-at, place-found}
+use Rattle.fdb_roles.proofs.Exports.{entries-rising, map-between, place-found}
 use Rattle.fdb_check.specs.Running.{map_after, IsNotPast, HasComeTo, moment}
 use Rattle.fdb_check.specs.Spots.{entries_through, moment_of}
 use Rattle.fdb_check.proofs.RunningLemmas.{map-first}

@@ -1,6 +1,6 @@
 -- How far a run of the book is, and which of the acknowledged are compared with it.
 use Rattle.std.specs.Prelude.{◌≡◌, ◌<◌, ◌≤◌, ◌⊎◌, ℕ, suc, false, List, [], ◌∷◌, take, length, Option, Some, None}
-use Rattle.std.specs.Prelude.{slice_get}
+use Rattle.std.specs.Prelude.{slice_get, nat_lt, if◌then◌else◌}
 use Rattle.fdb_keys.specs.Points.{Point}
 use Rattle.fdb_mutations.specs.Maps.{Map}
 use Rattle.fdb_mutations.specs.Mutations.{effects}
@@ -12,7 +12,7 @@ use Rattle.fdb_txn.specs.rules.SerialMap.{serial_map}
 use Rattle.fdb_proxy.specs.declared.outcome.Outcome.{Outcome}
 use Rattle.fdb_roles.specs.declared.placed.Placed.{Placed}
 use Rattle.fdb_roles.specs.Bodies.{body_by}
-use Rattle.fdb_check.specs.Judged.{outcomes_of, AreJudged}
+use Rattle.fdb_check.specs.Judged.{outcomes_of, AreJudged, JudgedBook}
 use Rattle.fdb_check.specs.Spots.{moment_of, comes_before}
 use Rattle.fdb_check.specs.declared.run.Run.{Run}
 use Rattle.fdb_check.specs.declared.visits.Visit.{Visit}
@@ -45,6 +45,22 @@ IsNotPast run entry place = (run.entry < entry) ⊎ ((run.entry ≡ entry) × (r
 -- it has come to that place of an entry
 abbrev pub HasComeTo : List Point → List Entry → ℕ → ℕ → Run → Type 0
 HasComeTo splits book entry place run = IsRunAt splits book run × (run.entry ≡ entry) × (run.place ≡ place)
+
+-- a run of a judged book, and how many entries it has run
+pub record SerialRun : Type 0 where
+  pub judged : JudgedBook
+  pub entries : ℕ
+
+-- the run of a book after so many entries
+abbrev pub run_of : List Point → List Entry → ℕ → SerialRun
+run_of splits book n = record { judged = record { splits = splits; book = book }; entries = n }
+
+-- it has run one entry more, if there is one
+abbrev pub after_next : SerialRun → SerialRun
+after_next run = record {
+  judged = run.judged;
+  entries = if nat_lt run.entries (length run.judged.book) then suc run.entries else run.entries;
+}
 
 -- the moment of one of them in the run
 abbrev pub moment : Visit → ℕ × ℕ

@@ -1,5 +1,5 @@
 // The rule over all resolvers, entry by entry.
-ghost use Rattle.std.specs.Prelude.{◌≡◌, ◌<◌, ◌≤◌, ◌-◌, ◌++◌, ◌↔◌, suc, length, List, [], ◌∷◌, None, IsTrue, IfOk};
+ghost use Rattle.std.specs.Prelude.{◌≡◌, ◌<◌, ◌≤◌, ◌-◌, ◌++◌, length, List, [], ◌∷◌, None, IfOk};
 ghost use Rattle.std.specs.Prelude.{IfErr, All};
 ghost use Rattle.fdb_keys.specs.Answers.{Answers};
 ghost use Rattle.fdb_keys.specs.declared.refusal.Refusal.TheVariants.{NoMemory};
@@ -14,14 +14,13 @@ ghost use Rattle.fdb_resolver.specs.Resolvers.{IsNew};
 ghost use Rattle.fdb_proxy.specs.Verdicts.{moves_through, outcomes_on};
 ghost use Rattle.fdb_roles.specs.Lists.{Each};
 ghost use Rattle.fdb_check.specs.Judging.{HaveMoves, MayTake, HaveSaid};
-ghost use Rattle.fdb_roles.specs.Judging.{MayFollow};
 ghost use Rattle.fdb_roles.specs.AtBook.{IsResolverAt};
 
 use fdb_keys::{Items, Key, Refusal};
 use fdb_owners::Owners;
 use fdb_proxy::{Outcome, Position, outcomes_of, parts_of};
 use fdb_resolver::{Part, ResolverCore, Verdict};
-use fdb_txn::{Entry, Move, RESOLVER_LIMIT, Sealed, Splits, WINDOW};
+use fdb_txn::{Entry, Move, RESOLVER_LIMIT, Splits, WINDOW};
 use std::alloc::{AllocError, Global};
 use std::marker::Model;
 
@@ -60,7 +59,9 @@ impl Judge {
     ghost use Rattle.fdb_txn.specs.book.History.{AreEntries};
     ghost use Rattle.fdb_txn.specs.rules.Splits.{splits_fault};
     ghost use Rattle.fdb_proxy.specs.Verdicts.{outcomes_on};
+    ghost use Rattle.fdb_owners.specs.Ownership.{resolvers_of};
     ghost use Rattle.fdb_check.specs.Judging.{IsJudgeAt};
+    ghost use Rattle.fdb_roles.specs.Judging.{MayFollow};
 
     /// The judge before the first entry, for one resolver more than there are splits. Refused as `BadConfig` where
     /// these are no splits into at most 64 pieces, and as `NoMemory`.
@@ -79,18 +80,16 @@ impl Judge {
         })
     }
 
-    /// Takes the next entry, and says what becomes of each of its places. Refused as `Chain` where the entry can't be
-    /// the next one of a book, and as `NoMemory`.
+    /// Takes the next entry, and says what becomes of each of its places. Refused only as `NoMemory`, where the entry
+    /// is the next one of a book.
     pub(crate) fn take(&mut self, entry: &Entry) -> Result<Items<Outcome>, Refusal>
+        requires { MayFollow self.old.last (resolvers_of self.old.owners) entry.now }
         ensures count { IfOk result (λ outcomes. length outcomes ≡ length entry.now.batch) }
         ensures outcomes { (splits : List Point) (before : List Entry) → IsJudgeAt splits before self.old
             → AreEntries (suc (length splits)) 0 (before ++ entry.now ∷ [])
             → Answers result None (λ outcomes. (outcomes ≡ outcomes_on splits (seen_of before) entry.now)
             × IsJudgeAt splits (before ++ entry.now ∷ []) self.new) }
     {
-        if !may_follow(self.last, self.owners.resolvers(), entry) {
-            return Err(Refusal::Chain);
-        }
         self.last = entry.version;
         learn(&mut self.owners, entry)?;
         let outcomes = judge_entry(self.alloc, &self.owners, &mut self.resolvers, entry)?;
@@ -108,28 +107,6 @@ fn new_cores(alloc: Global, count: u32) -> Result<Vec<ResolverCore>, AllocError>
         resolvers.push(ResolverCore::new(alloc, index))?;
     }
     Ok(resolvers)
-}
-
-fn do_targets_exist(moves: &[Move], resolvers: u32) -> bool
-    ensures { IsTrue result ↔ All (λ move. move.to < resolvers) moves.now }
-{
-    moves.iter().all(|one_move| one_move.to < resolvers)
-}
-
-fn are_reads_below(batch: &[Sealed], version: u64) -> bool
-    ensures { IsTrue result ↔ All (λ t. t.read < version) batch.now }
-{
-    batch.iter().all(|txn| txn.read_version() < version)
-}
-
-// Whether the entry may stand after one of the version, where there are so many resolvers.
-fn may_follow(last: u64, resolvers: u32, entry: &Entry) -> bool
-    ensures { IsTrue result ↔ MayFollow last resolvers entry.now }
-{
-    last < entry.version
-        && entry.prev == last
-        && do_targets_exist(entry.moves.as_slice(), resolvers)
-        && are_reads_below(entry.batch.as_slice(), entry.version)
 }
 
 // Learns the moves, if there are any.

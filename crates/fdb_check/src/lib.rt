@@ -2,15 +2,19 @@
 //! transactions run one at a time, and each transcript is compared at its spot.
 #![tactic(auto)]
 
+mod comparing;
+mod entries;
 mod fault;
 mod judge;
 mod judged;
+mod judged_book;
 mod run;
 mod serial;
+mod serial_run;
 mod standing;
 mod visits;
 
 pub use fault::CheckFault;
-pub use judged::judge_book;
-pub use run::{Run, new_run, run_entry};
-pub use serial::{check_placed, serial_check};
+pub use judged_book::JudgedBook;
+pub use serial::serial_check;
+pub use serial_run::SerialRun;

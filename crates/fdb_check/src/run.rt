@@ -21,19 +21,19 @@ use std::alloc::Global;
 
 /// How far the run is.
 #[derive(Drop)]
-pub struct Run<'a> {
-    /// What becomes of the places of each entry, by its number.
-    pub judged: &'a [Items<Outcome>],
-    /// The map after the places that were run.
-    pub map: PlainMap,
-    /// How many entries were run whole.
-    pub entry: usize,
-    /// How many places of the next entry were run.
-    pub place: usize,
+pub(crate) struct Run<'a> {
+    // What becomes of the places of each entry, by its number.
+    pub(crate) judged: &'a [Items<Outcome>],
+    // The map after the places that were run.
+    pub(crate) map: PlainMap,
+    // How many entries were run whole.
+    pub(crate) entry: usize,
+    // How many places of the next entry were run.
+    pub(crate) place: usize,
 }
 
 /// The run before the first entry.
-pub fn new_run(alloc: Global, judged: &[Items<Outcome>]) -> Run<'_>
+pub(crate) fn new_run(alloc: Global, judged: &[Items<Outcome>]) -> Run<'_>
     ensures { (splits : List Point) (book : List Entry) → AreJudged splits book judged.now
         → HasComeTo splits book 0 0 result }
 {
@@ -122,12 +122,13 @@ fn go_within(run: &mut Run, entry: &Entry, place: usize) -> Result<(), CheckFaul
     Ok(())
 }
 
-/// Runs what is left of the entry.
-pub fn run_entry(run: &mut Run, book: &[Entry]) -> Result<(), CheckFault>
+/// Runs what is left of the entry. At the end of the book nothing is left.
+pub(crate) fn run_entry(run: &mut Run, book: &[Entry]) -> Result<(), CheckFault>
     ensures ok { (splits : List Point) → AreEntries (suc (length splits)) 0 book.now → IsRunAt splits book.now run.old
         → run.old.entry < length book.now
         → OnOk result (HasComeTo splits book.now (suc run.old.entry) 0 run.new) }
-    ensures err { IfErr result (λ fault. fault ≡ CheckFault.NoMemory) }
+    ensures end { OnOk result (length book.now ≤ run.old.entry → run.new ≡ run.old) }
+    ensures err { IfErr result (λ fault. (fault ≡ CheckFault.NoMemory) × (run.old.entry < length book.now)) }
 {
     let Some(entry) = book.get(run.entry) else {
         return Ok(());

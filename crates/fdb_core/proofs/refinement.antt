@@ -1,5 +1,6 @@
 pub mod BookPushes
 pub mod RestoringLemmas
+pub mod RolesLemmas
 pub mod ServingLaws
 pub mod StartLemmas
 pub mod StepLemmas

@@ -18,7 +18,7 @@ impl Cluster {
             return Err(Refusal::Unknown);
         }
         let commit_proxy = &self.commit_proxies[at];
-        if commit_proxy.core.is_failed() {
+        if commit_proxy.state.is_failed() {
             return Err(Refusal::Failed);
         }
         if commit_proxy.is_idle() {

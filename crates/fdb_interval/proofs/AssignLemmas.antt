@@ -12,7 +12,8 @@ use Rattle.fdb_keys.specs.Points.{Point, point_lt}
 use Rattle.fdb_keys.specs.Ranges.{Range, in_range}
 use Rattle.fdb_keys.proofs.Exports.{lt-itself, lt_one_way, lt_chain, lt_le_chain}
 use Rattle.fdb_interval.specs.Breakpoints.{Breaks, value_from, last_value, breaks_before, breaks_inside}
-use Rattle.fdb_interval.specs.Breakpoints.{without, AreRising, AreJoined}
+use Rattle.fdb_interval.specs.Breakpoints.{AreRising, AreJoined}
+use Rattle.fdb_keys.specs.RangeMaps.{without_points}
 use Rattle.fdb_interval.proofs.BreaksLemmas.{sift, before, from, up_to, beyond, at, inside, inside-is, all-sift}
 use Rattle.fdb_interval.proofs.BreaksLemmas.{five_parts}
 use Rattle.fdb_interval.proofs.BreaksLemmas.{cut_in_two, cut_from, cut_beyond, value-append, value-after}
@@ -99,7 +100,7 @@ module _ (old : Breaks ℕ) (range : Range) (version : ℕ) (rising : AreRising 
 
   -- with the version from the begin up to the end
   abbrev pub cleared : Breaks ℕ
-  cleared = without swallowed (put range.begin version with_end)
+  cleared = without_points swallowed (put range.begin version with_end)
 
   -- and with equal neighbours joined
   abbrev pub assigned : Breaks ℕ
@@ -129,7 +130,7 @@ module _ (old : Breaks ℕ) (range : Range) (version : ℕ) (rising : AreRising 
 
   -- no test that fails inside the range finds what was swallowed
   unswallowed : (p : Point → Bool) → ((x : Point) → inside range.begin range.end x ≡ true → p x ≡ false)
-      → (es : Breaks ℕ) → sift p (without swallowed es) ≡ sift p es
+      → (es : Breaks ℕ) → sift p (without_points swallowed es) ≡ sift p es
   unswallowed p fails es = without-other p swallowed
       (keys_all (λ x. p x ≡ false) (sift (inside range.begin range.end) old)
       (all-sift (inside range.begin range.end) (λ x. p x ≡ false) fails old)) es
@@ -168,7 +169,7 @@ module _ (old : Breaks ℕ) (range : Range) (version : ℕ) (rising : AreRising 
       (keys_all (λ x. inside range.begin range.end x ≡ true) (sift (inside range.begin range.end) old)
       (all-sift (inside range.begin range.end) (λ x. inside range.begin range.end x ≡ true) (λ x within. within) old))
       (put range.begin version with_end)
-      ∙ ap (without swallowed)
+      ∙ ap (without_points swallowed)
       (put-other (inside range.begin range.end) range.begin version begin_outside with_end
       ∙ with_end-other (inside range.begin range.end) end_outside)
       ∙ without-all (sift (inside range.begin range.end) old)
@@ -339,7 +340,7 @@ pub assigned-by-steps : (old laid left first last : Breaks ℕ) (range : Range) 
     → keys ≡ keys_of (breaks_inside range old)
     → laid ≡ put range.begin version
     (if is_some (lookup (is_at (slice_cmp nat_cmp range.end)) old) then old else put range.end there old)
-    → left ≡ without keys laid
+    → left ≡ without_points keys laid
     → first ≡ taken_if (before == version) range.begin left
     → last ≡ taken_if (there == version) range.end first
     → last ≡ assigned old range version rising some
@@ -349,7 +350,8 @@ assigned-by-steps old laid left first last range version before there keys risin
     is_laid
     ∙ (λ i. put range.begin version (if is_some (lookup (is_at (slice_cmp nat_cmp range.end)) old) then old
     else put range.end (is_behind i) old)) in
-    let left_is : left ≡ cleared old range version rising some = is_left ∙ (λ i. without (are_keys i) (laid_is i)) in
+    let left_is : left ≡ cleared old range version rising some = is_left
+    ∙ (λ i. without_points (are_keys i) (laid_is i)) in
     let first_is : first ≡ taken_if (start old range version rising some == version) range.begin
     (cleared old range version rising some) =
     is_first ∙ (λ i. taken_if (is_before i == version) range.begin (left_is i)) in

@@ -7,20 +7,20 @@ use Rattle.std.specs.Cmp.Lexicographic.{slice_cmp}
 use Rattle.std.specs.List.{AllByRecursion, filter}
 use Rattle.std.specs.List.Sorted.{IsStrictlySortedBy}
 use Rattle.std.specs.Map.{keys_of}
-use Rattle.std.specs.Ordering.{nat_cmp, is_eq, is_le, is_lt, ordering_reverse}
+use Rattle.std.specs.Ordering.{nat_cmp, is_eq, is_lt, ordering_reverse}
 use Rattle.std.specs.declared.cmp.Ordering.{Ordering}
 use Rattle.std.specs.declared.ops.Bound.TheVariants.{Included, Excluded, Unbounded}
 use Rattle.std.proofs.lemmas.Bool.{cases_Bool, cond-true, cond-false, not_from_true, not_from_false, not-true}
 use Rattle.std.proofs.lemmas.Cmp.{nat_list_cmp_total}
 use Rattle.fdb_keys.specs.Points.{Point, point_lt}
-use Rattle.fdb_keys.proofs.Exports.{lt_one_way, lt_chain, lt_le_chain, le_lt_chain, le_chain}
+use Rattle.fdb_keys.proofs.Exports.{le_chain, le_lt_chain, lt_chain, lt_le_chain, lt_one_way, not_past}
+use Rattle.fdb_keys.proofs.Exports.{all-weaken, ordered-before}
 use Rattle.fdb_interval.specs.Breakpoints.{Breaks, value_from, last_value, breaks_before, AreRising}
 
 -- what holds of each breakpoint
 pub all_imply : {V : Type 0} (P Q : Point × V → Type 0) → ((entry : Point × V) → P entry → Q entry) → (es : Breaks V)
     → AllByRecursion P es → AllByRecursion Q es
-all_imply P Q imply [] all = tt
-all_imply P Q imply (e ∷ es) all = (imply e all.0, all_imply P Q imply es all.1)
+all_imply = all-weaken
 
 -- the keys of a map rise
 pub later_from_sorted : {V : Type 0} (x : Point) (es : Breaks V)
@@ -214,15 +214,6 @@ at-is x y =
     tied Equal = refl
     tied Greater = refl
 
-pub not_past : (x y : Point) → not (is_le (slice_cmp nat_cmp y x)) ≡ point_lt x y
-unfolding point_lt
-not_past x y = ap (λ o. not (is_le o)) (nat_list_cmp_total.antisymm y x) ∙ turned (slice_cmp nat_cmp x y)
-  where
-    turned : (o : Ordering) → not (is_le (ordering_reverse o)) ≡ is_lt o
-    turned Less = refl
-    turned Equal = refl
-    turned Greater = refl
-
 pub inside-is : (begin end x : Point) → inside begin end x ≡ (point_lt begin x && point_lt x end)
 unfolding point_lt
 inside-is begin end x = ap (λ (t : Bool). is_lt (slice_cmp nat_cmp begin x) && t) (not_past x end)
@@ -301,13 +292,6 @@ pub before-last-none : {V : Type 0} (start : V) (es : Breaks V) (x : Point)
 before-last-none start es x found = sym (ap (last_value start) (before-is es x ∙ found))
 
 -- ---- what comes before one of them
-pub first_of_back : {V : Type 0} (P : Point × V → Type 0) (front : Breaks V) (e : Point × V) (back : Breaks V)
-    → AllByRecursion P (front ++ e ∷ back) → P e
-first_of_back P [] e back all = all.0
-first_of_back P (f ∷ front) e back all = first_of_back P front e back all.1
-
 pub all_sooner : {V : Type 0} (front : Breaks V) (e : Point × V) (back : Breaks V) → AreRising (front ++ e ∷ back)
     → AllByRecursion (λ (f : Point × V). point_lt f.0 e.0 ≡ true) front
-all_sooner [] e back rising = tt
-all_sooner (f ∷ front) e back rising =
-    (first_of_back (λ later. point_lt f.0 later.0 ≡ true) front e back rising.0, all_sooner front e back rising.1)
+all_sooner {V} = ordered-before (λ (first later : Point × V). point_lt first.0 later.0 ≡ true)

@@ -13,7 +13,8 @@ use Rattle.std.proofs.lemmas.Bool.{cases_Bool, both_ways, cond-true, cond-false}
 use Rattle.std.proofs.lemmas.Cmp.{nat_list_cmp_total, tied_itself}
 use Rattle.fdb_keys.specs.Points.{Point, point_lt}
 use Rattle.fdb_keys.proofs.Exports.{lt-itself, lt_chain, cmp_less, cmp_greater}
-use Rattle.fdb_interval.specs.Breakpoints.{Breaks, value_from, AreRising, without}
+use Rattle.fdb_interval.specs.Breakpoints.{Breaks, value_from, AreRising}
+use Rattle.fdb_keys.specs.RangeMaps.{without_points}
 use Rattle.fdb_interval.proofs.BreaksLemmas.{all_imply, sift, sift-true, sift-false, sift-none, at, value-after}
 
 -- the breakpoints with a value at a point, and those without that at the point
@@ -182,25 +183,26 @@ rising-taken x (e ∷ es) rising = ⊎_elim
     (cases_Bool (at x e.0))
 
 -- ---- all that are inside a range
-pub rising-without : {V : Type 0} (keys : List Point) (es : Breaks V) → AreRising es → AreRising (without keys es)
+pub rising-without : {V : Type 0} (keys : List Point) (es : Breaks V) → AreRising es
+    → AreRising (without_points keys es)
 rising-without [] es rising = rising
 rising-without (key ∷ keys) es rising = rising-without keys (taken key es) (rising-taken key es rising)
 
 pub without-other : {V : Type 0} (p : Point → Bool) (keys : List Point)
     → AllByRecursion (λ key. p key ≡ false) keys → (es : Breaks V)
-    → sift p (without keys es) ≡ sift p es
+    → sift p (without_points keys es) ≡ sift p es
 without-other p [] fail es = refl
 without-other p (key ∷ keys) fail es = without-other p keys fail.1 (taken key es) ∙ taken-other p key fail.0 es
 
 pub without-passing : {V : Type 0} (p : Point → Bool) (keys : List Point) → AllByRecursion (λ key. p key ≡ true) keys
-    → (es : Breaks V) → sift p (without keys es) ≡ without keys (sift p es)
+    → (es : Breaks V) → sift p (without_points keys es) ≡ without_points keys (sift p es)
 without-passing p [] pass es = refl
 without-passing p (key ∷ keys) pass es =
-    without-passing p keys pass.1 (taken key es) ∙ ap (without keys) (taken-passing p key pass.0 es)
+    without-passing p keys pass.1 (taken key es) ∙ ap (without_points keys) (taken-passing p key pass.0 es)
 
-pub without-all : {V : Type 0} (es : Breaks V) → without (keys_of es) es ≡ []
+pub without-all : {V : Type 0} (es : Breaks V) → without_points (keys_of es) es ≡ []
 without-all [] = refl
-without-all (e ∷ es) = ap (without (keys_of es)) (cond-true _ _ _ (at_itself e.0)) ∙ without-all es
+without-all (e ∷ es) = ap (without_points (keys_of es)) (cond-true _ _ _ (at_itself e.0)) ∙ without-all es
 
 pub keys_all : {V : Type 0} (P : Point → Type 0) (es : Breaks V) → AllByRecursion (λ (e : Point × V). P e.0) es
     → AllByRecursion P (keys_of es)

@@ -10,11 +10,12 @@ use Rattle.std.specs.declared.ops.Bound.TheVariants.{Included, Unbounded}
 use Rattle.std.proofs.lemmas.Bool.{cases_Bool, cond-true, cond-false, leb-true}
 use Rattle.std.proofs.lemmas.Cmp.{nat_list_cmp_total}
 use Rattle.fdb_keys.specs.Points.{Point, point_lt}
-use Rattle.fdb_keys.proofs.Exports.{lt_one_way, lt_le_chain}
+use Rattle.fdb_keys.proofs.Exports.{all-parts, lt_le_chain, lt_one_way}
 use Rattle.fdb_interval.specs.Breakpoints.{Breaks, value_from, last_value, breaks_before, AreRising, AreJoined}
-use Rattle.fdb_interval.specs.Breakpoints.{dead_of, without, IsWalk}
+use Rattle.fdb_interval.specs.Breakpoints.{dead_of, IsWalk}
+use Rattle.fdb_keys.specs.RangeMaps.{without_points}
 use Rattle.fdb_interval.proofs.BreaksLemmas.{all_imply, cut_in_two, cut_from, before, from, last-append, value-append}
-use Rattle.fdb_interval.proofs.BreaksLemmas.{value-reached, first_of_back, all_sooner}
+use Rattle.fdb_interval.proofs.BreaksLemmas.{value-reached, all_sooner}
 use Rattle.fdb_interval.proofs.JoinedLemmas.{joined-front, joined-back, joined-both}
 use Rattle.fdb_interval.proofs.PartsLemmas.{taken, at_itself, at_after, rising-taken}
 use Rattle.fdb_interval.proofs.VersionsLemmas.{above, above-older}
@@ -47,7 +48,8 @@ taken-is : (front : Breaks ℕ) (x : Point) (version : ℕ) (back : Breaks ℕ) 
     → taken x (front ++ (x, version) ∷ back) ≡ front ++ back
 taken-is [] x version back rising = cond-true _ _ _ (at_itself x)
 taken-is (f ∷ front) x version back rising =
-    let sooner = first_of_back (λ later. point_lt f.0 later.0 ≡ true) front (x, version) back rising.0 in
+    let sooner =
+    (all-parts (λ (later : Point × ℕ). point_lt f.0 later.0 ≡ true) front ((x, version) ∷ back) rising.0).1.0 in
     cond-false _ _ _ (at_after x f.0 sooner) ∙ ap (λ (l : Breaks ℕ). f ∷ l) (taken-is front x version back rising.1)
 
 -- of two versions up to the floor, either may come before
@@ -147,7 +149,7 @@ keeps_itself floor es = record { versions = λ y. refl; joined = λ joined. join
 -- what is seen is taken out where it is dead, and what comes before it and behind it stays
 keeps-seen : (floor held : ℕ) (front seen back : Breaks ℕ) → AreRising (front ++ (seen ++ back))
     → (held ≤ floor → last_value 0 front ≤ floor)
-    → Keeps floor (front ++ (seen ++ back)) (without (dead_of floor held seen) (front ++ (seen ++ back)))
+    → Keeps floor (front ++ (seen ++ back)) (without_points (dead_of floor held seen) (front ++ (seen ++ back)))
 keeps-seen floor held front [] back rising low = keeps_itself floor (front ++ back)
 keeps-seen floor held front (e ∷ seen) back rising low = ⊎_elim
     (λ dead.
@@ -157,9 +159,10 @@ keeps-seen floor held front (e ∷ seen) back rising low = ⊎_elim
     taken-is front e.0 e.1 (seen ++ back) rising in
     let others = keeps-seen floor e.1 front seen back
     (subst AreRising left (rising-taken e.0 (front ++ (e ∷ (seen ++ back))) rising)) (λ same. low_held) in
-    subst (λ (l : List Point). Keeps floor (front ++ (e ∷ (seen ++ back))) (without l (front ++ (e ∷ (seen ++ back)))))
+    subst (λ (l : List Point). Keeps floor (front ++ (e ∷ (seen ++ back)))
+    (without_points l (front ++ (e ∷ (seen ++ back)))))
     (sym (cond-true _ _ _ dead))
-    (subst (λ (l : Breaks ℕ). Keeps floor (front ++ (e ∷ (seen ++ back))) (without (dead_of floor e.1 seen) l))
+    (subst (λ (l : Breaks ℕ). Keeps floor (front ++ (e ∷ (seen ++ back))) (without_points (dead_of floor e.1 seen) l))
     (sym left)
     (keeps-dead floor (front ++ (e ∷ (seen ++ back))) (front ++ (seen ++ back)) _ e.0 rising
     (front, e.1, seen ++ back, refl, low_held, omega (arith, both)) left others)))
@@ -168,20 +171,21 @@ keeps-seen floor held front (e ∷ seen) back rising low = ⊎_elim
     append_assoc front (e ∷ []) (seen ++ back) in
     let others = keeps-seen floor e.1 (front ++ e ∷ []) seen back (subst AreRising (sym same) rising)
     (λ is_low. subst (λ (n : ℕ). n ≤ floor) (sym (last-append 0 front (e ∷ []))) is_low) in
-    subst (λ (l : List Point). Keeps floor (front ++ (e ∷ (seen ++ back))) (without l (front ++ (e ∷ (seen ++ back)))))
+    subst (λ (l : List Point). Keeps floor (front ++ (e ∷ (seen ++ back)))
+    (without_points l (front ++ (e ∷ (seen ++ back)))))
     (sym (cond-false _ _ _ alive))
-    (subst (λ (l : Breaks ℕ). Keeps floor l (without (dead_of floor e.1 seen) l)) same others))
+    (subst (λ (l : Breaks ℕ). Keeps floor l (without_points (dead_of floor e.1 seen) l)) same others))
     (cases_Bool (nat_le (max held e.1) floor))
 
 pub walk-keeps : (floor : ℕ) (from : Point) (es : Breaks ℕ) (dead : List Point) (after : Breaks ℕ) → AreRising es
-    → IsWalk floor from es dead → after ≡ without dead es → Keeps floor es after
+    → IsWalk floor from es dead → after ≡ without_points dead es → Keeps floor es after
 walk-keeps floor from es dead after rising walk is =
     let front = breaks_before from es in
     let start = last_value 0 front in
     let parts = walk.2 in
     subst (λ (l : Breaks ℕ). Keeps floor es l)
-    (sym (is ∙ ap (λ (l : List Point). without l es) walk.3))
-    (subst (λ (l : Breaks ℕ). Keeps floor l (without (dead_of floor start walk.0) l)) (sym parts)
+    (sym (is ∙ ap (λ (l : List Point). without_points l es) walk.3))
+    (subst (λ (l : Breaks ℕ). Keeps floor l (without_points (dead_of floor start walk.0) l)) (sym parts)
     (keeps-seen floor start front walk.0 walk.1 (subst AreRising parts rising) (λ low. low)))
 
 -- ---- the steps of a walk

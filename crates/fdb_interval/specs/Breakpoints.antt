@@ -3,10 +3,11 @@ use Rattle.std.specs.Prelude.{◌≡◌, ◌<◌, ⊤, ℕ, max, nat_le, true, L
 use Rattle.std.specs.BTreeMap.{is_at}
 use Rattle.std.specs.BTreeMap.Range.{entries_between}
 use Rattle.std.specs.Cmp.Lexicographic.{slice_cmp}
-use Rattle.std.specs.List.{AllByRecursion, filter, fold}
+use Rattle.std.specs.List.{filter, fold}
 use Rattle.std.specs.Map.{remove_entry}
 use Rattle.std.specs.Ordering.{nat_cmp}
 use Rattle.std.specs.declared.ops.Bound.TheVariants.{Excluded}
+use Rattle.fdb_keys.specs.Ordered.{AreOrdered}
 use Rattle.fdb_keys.specs.Points.{Point, point_lt}
 use Rattle.fdb_keys.specs.Ranges.{Range}
 
@@ -30,8 +31,7 @@ last_value before (first ∷ rest) = last_value first.1 rest
 
 -- each breakpoint comes before those after it
 abbrev pub AreRising : {V : Type 0} → Breaks V → Type 0
-AreRising [] = ⊤
-AreRising (first ∷ rest) = AllByRecursion (λ later. point_lt first.0 later.0 ≡ true) rest × AreRising rest
+AreRising {V} es = AreOrdered (λ (first later : Point × V). point_lt first.0 later.0 ≡ true) es
 
 -- equal neighbours are joined: a version above the floor isn't the one before it
 abbrev pub AreJoined : ℕ → ℕ → Breaks ℕ → Type 0
@@ -52,10 +52,6 @@ breaks_before x breaks = filter (λ entry. point_lt entry.0 x) breaks
 abbrev pub breaks_inside : {V : Type 0} → Range → Breaks V → Breaks V
 breaks_inside range breaks =
     entries_between (slice_cmp nat_cmp) (Excluded range.begin) (Excluded range.end) breaks
-
--- the breakpoints without those at the keys
-abbrev pub without : {V : Type 0} → List Point → Breaks V → Breaks V
-without keys breaks = fold (λ rest key. remove_entry (is_at (slice_cmp nat_cmp key)) rest) breaks keys
 
 -- the points are those of the dead breakpoints that a walk from the point on went over
 abbrev pub IsWalk : ℕ → Point → Breaks ℕ → List Point → Type 0

@@ -8,7 +8,8 @@ ghost use Rattle.std.specs.Map.{keys_of, lookup, remove_entry};
 ghost use Rattle.std.specs.Ordering.{nat_cmp};
 ghost use Rattle.fdb_keys.specs.Points.{Point, point_lt};
 ghost use Rattle.fdb_keys.specs.Ranges.{in_range};
-ghost use Rattle.fdb_interval.specs.Breakpoints.{value_from, last_value, breaks_before, breaks_inside, without};
+ghost use Rattle.fdb_interval.specs.Breakpoints.{value_from, last_value, breaks_before, breaks_inside};
+ghost use Rattle.fdb_keys.specs.RangeMaps.{without_points};
 ghost use Rattle.fdb_interval.specs.Breakpoints.{AreJoined, AreRising};
 
 use crate::keyed_range::KeyedRange;
@@ -303,7 +304,7 @@ fn put_beside_new(
 
 // Takes out the breakpoints at the keys.
 pub(crate) fn remove_all(breaks: &mut BTreeMap<PointKey, u64>, keys: &[PointKey])
-    ensures { breaks.new.entries ≡ without keys.now breaks.old.entries }
+    ensures { breaks.new.entries ≡ without_points keys.now breaks.old.entries }
 {
     for key in keys {
         breaks.remove(key);

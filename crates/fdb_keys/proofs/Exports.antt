@@ -5,9 +5,13 @@ pub use Rattle.fdb_keys.proofs.BehindLemmas.{after_next, behind-inside, not_behi
 pub use Rattle.fdb_keys.proofs.ClippingLemmas.{in_clipped-points, in_common}
 pub use Rattle.fdb_keys.proofs.EqualityLemmas.{items_eq_decides, key_eq_decides, range_eq_decides, range_set_eq_decides}
 pub use Rattle.fdb_keys.proofs.InsertionLemmas.{apart_parts, in_range-empty}
+pub use Rattle.fdb_keys.proofs.OrderedLemmas.{all-append, all-filter, all-parts, all-weaken, ordered-back}
+pub use Rattle.fdb_keys.proofs.OrderedLemmas.{ordered-before, ordered-front, ordered-parted, ordered-push}
+pub use Rattle.fdb_keys.proofs.OrderedLemmas.{searched-parts}
 pub use Rattle.fdb_keys.proofs.OutsideLemmas.{apart-outside, in_outside}
 pub use Rattle.fdb_keys.proofs.PointOrder.{cmp_greater, cmp_less, le_chain, le_lt_chain, lt-itself, lt_chain}
 pub use Rattle.fdb_keys.proofs.PointOrder.{lt_le_chain, lt_one_way, point_order}
+pub use Rattle.fdb_keys.proofs.RangeMapLemmas.{not_past}
 pub use Rattle.fdb_keys.proofs.RangesLemmas.{HaveCommonPoint, common_from_meet, in_range_from, in_range_parts}
 pub use Rattle.fdb_keys.proofs.RangesLemmas.{meet_from_common}
 pub use Rattle.fdb_keys.proofs.SingleLemmas.{below_next, in_range-single, next_after}

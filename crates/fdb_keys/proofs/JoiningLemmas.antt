@@ -14,7 +14,7 @@ use Rattle.std.proofs.lemmas.Bool.{not_from_true}
 use Rattle.fdb_keys.specs.Insertion.{joined_range, inserted, with_range, with_ranges}
 use Rattle.fdb_keys.specs.Joining.{all_joined, begins_within_all, with_all}
 use Rattle.fdb_keys.specs.Points.{Point, point_lt}
-use Rattle.fdb_keys.specs.RangeMaps.{Entries, AreUnderBegins, begins_within, without}
+use Rattle.fdb_keys.specs.RangeMaps.{Entries, AreUnderBegins, begins_within, without_points}
 use Rattle.fdb_keys.specs.Ranges.{Range, in_range, in_set, is_empty_range, is_apart}
 use Rattle.fdb_keys.specs.Touching.{joined_with_touched}
 use Rattle.fdb_keys.proofs.PointOrder.{lt_one_way, lt_chain, le_chain, le_lt_chain, cmp_less}
@@ -224,22 +224,22 @@ abbrev AllBefore : Point → List Point → Type 0
 AllBefore x keys = AllByRecursion (λ key. point_lt key x ≡ true) keys
 
 without-put : (keys : List Point) (range : Range) (entries : Entries) → AllBefore range.begin keys
-    → without keys (put range entries) ≡ put range (without keys entries)
+    → without_points keys (put range entries) ≡ put range (without_points keys entries)
 without-put [] range entries before = refl
 without-put (key ∷ keys) range entries before =
-    ap (without keys) (removed-put key range entries before.0)
+    ap (without_points keys) (removed-put key range entries before.0)
     ∙ without-put keys range (removed key entries) before.1
 
 without-with_all : (keys : List Point) (ranges : List Range) (entries : Entries)
     → AllByRecursion (λ range. AllBefore range.begin keys) ranges
-    → without keys (with_all ranges entries) ≡ with_all ranges (without keys entries)
+    → without_points keys (with_all ranges entries) ≡ with_all ranges (without_points keys entries)
 without-with_all keys [] entries before = refl
 without-with_all keys (range ∷ ranges) entries before =
     without-with_all keys ranges (put range entries) before.1
     ∙ ap (with_all ranges) (without-put keys range entries before.0)
 
 without-append : (keys others : List Point) (entries : Entries)
-    → without (keys ++ others) entries ≡ without others (without keys entries)
+    → without_points (keys ++ others) entries ≡ without_points others (without_points keys entries)
 without-append [] others entries = refl
 without-append (key ∷ keys) others entries = without-append keys others (removed key entries)
 
@@ -304,7 +304,7 @@ module _ (range : Range) where
       tied_from_test Greater tied = cc
 
   within-without : (keys : List Point) (entries : Entries) → AllBefore range.begin keys
-      → within_of range (without keys entries) ≡ within_of range entries
+      → within_of range (without_points keys entries) ≡ within_of range entries
   within-without [] entries before = refl
   within-without (key ∷ keys) entries before =
       within-without keys (removed key entries) before.1
@@ -345,7 +345,7 @@ module _ (Q : Range → Type 0) where
       (cases_Bool (is_at (slice_cmp nat_cmp key) entry.0))
 
   all-without : (keys : List Point) (entries : Entries) → AllByRecursion Q (values_of entries)
-      → AllByRecursion Q (values_of (without keys entries))
+      → AllByRecursion Q (values_of (without_points keys entries))
   all-without [] entries all = all
   all-without (key ∷ keys) entries all = all-without keys (removed key entries) (all-removed key entries all)
 
@@ -365,24 +365,24 @@ begins_within_all-replaced range (other ∷ ranges) entries some after =
 -- the first one's part is done before the others'
 first_replaced : (range : Range) (ranges : List Range) (entries : Entries) → point_lt range.begin range.end ≡ true
     → AllByRecursion (λ other. point_lt range.end other.begin ≡ true) ranges
-    → without (begins_within_all (range ∷ ranges) entries) (with_all (range ∷ ranges) entries)
-    ≡ without (begins_within_all ranges (replaced range entries)) (with_all ranges (replaced range entries))
+    → without_points (begins_within_all (range ∷ ranges) entries) (with_all (range ∷ ranges) entries)
+    ≡ without_points (begins_within_all ranges (replaced range entries)) (with_all ranges (replaced range entries))
 first_replaced range ranges entries some after =
     let within = keys_of (within_of range entries) in
     let others = begins_within_all ranges entries in
     without-append (begins_within range entries) others (with_all ranges (put range entries))
-    ∙ ap (λ (l : List Point). without others (without l (with_all ranges (put range entries))))
+    ∙ ap (λ (l : List Point). without_points others (without_points l (with_all ranges (put range entries))))
     (begins_within-is range entries)
-    ∙ ap (without others) (without-with_all within ranges (put range entries)
+    ∙ ap (without_points others) (without-with_all within ranges (put range entries)
     (all_from (λ other later again. within_before range other.begin entries later) ranges after after))
-    ∙ ap (λ (l : List Point). without l (with_all ranges (replaced range entries)))
+    ∙ ap (λ (l : List Point). without_points l (with_all ranges (replaced range entries)))
     (begins_within_all-replaced range ranges entries some after)
 
 all_put : (ranges : List Range) (entries : Entries) → is_apart ranges ≡ true → AreUnderBegins entries
     → is_apart (values_of entries) ≡ true → AllByRecursion (AllFit (values_of entries)) ranges
-    → (values_of (without (begins_within_all ranges entries) (with_all ranges entries))
+    → (values_of (without_points (begins_within_all ranges entries) (with_all ranges entries))
     ≡ with_ranges ranges (values_of entries))
-    × AreUnderBegins (without (begins_within_all ranges entries) (with_all ranges entries))
+    × AreUnderBegins (without_points (begins_within_all ranges entries) (with_all ranges entries))
 all_put [] entries apart_added under apart fit = (refl, under)
 all_put (range ∷ ranges) entries apart_added under apart fit =
     let parts = apart_parts range ranges apart_added in
@@ -404,7 +404,7 @@ all_put (range ∷ ranges) entries apart_added under apart fit =
 pub all_added : (added joined : List Range) (others : List Point) (entries result : Entries)
     → is_apart added ≡ true → AreUnderBegins entries → is_apart (values_of entries) ≡ true
     → joined ≡ all_joined added (values_of entries) → others ≡ begins_within_all joined entries
-    → result ≡ without others (with_all joined entries)
+    → result ≡ without_points others (with_all joined entries)
     → (values_of result ≡ with_ranges added (values_of entries)) × AreUnderBegins result
     × (is_apart (values_of result) ≡ true)
 all_added added joined others entries result apart_added under apart joins swallows is =
@@ -412,10 +412,10 @@ all_added added joined others entries result apart_added under apart joins swall
     let all = all_joined added ranges in
     let made = all_put all entries (apart-onto ranges apart [] added refl) under apart
     (all_fit-onto ranges apart [] added apart_added tt) in
-    let same : result ≡ without (begins_within_all all entries) (with_all all entries) =
+    let same : result ≡ without_points (begins_within_all all entries) (with_all all entries) =
     is
-    ∙ ap (λ (l : List Point). without l (with_all joined entries)) swallows
-    ∙ ap (λ (l : List Range). without (begins_within_all l entries) (with_all l entries)) joins in
+    ∙ ap (λ (l : List Point). without_points l (with_all joined entries)) swallows
+    ∙ ap (λ (l : List Range). without_points (begins_within_all l entries) (with_all l entries)) joins in
     let values : values_of result ≡ with_ranges added ranges =
     ap values_of same ∙ made.0 ∙ with_joined ranges apart added apart_added in
     (values, subst AreUnderBegins (sym same) made.1, ap is_apart values ∙ apart-with_ranges added ranges apart)

@@ -8,6 +8,7 @@ mod GatheringLemmas
 mod InsertionLemmas
 mod JoiningLemmas
 mod LastLemmas
+mod OrderedLemmas
 mod OutsideLemmas
 mod PlaceLemmas
 mod PointOrder

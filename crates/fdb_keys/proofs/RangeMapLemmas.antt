@@ -15,7 +15,7 @@ use Rattle.std.proofs.lemmas.Cmp.{nat_list_cmp_total, tied_itself}
 use Rattle.fdb_keys.specs.Insertion.{inserted}
 use Rattle.fdb_keys.specs.Touching.{joined_with_touched, last_by}
 use Rattle.fdb_keys.specs.Points.{Point, point_lt}
-use Rattle.fdb_keys.specs.RangeMaps.{Entries, AreUnderBegins, begins_within, without}
+use Rattle.fdb_keys.specs.RangeMaps.{Entries, AreUnderBegins, begins_within, without_points}
 use Rattle.fdb_keys.specs.Ranges.{Range, is_apart}
 use Rattle.fdb_keys.proofs.PointOrder.{lt-itself, lt_one_way, cmp_less, cmp_greater, same_point}
 use Rattle.fdb_keys.proofs.InsertionLemmas.{apart_parts, inserted-before, inserted-joined, apart-inserted}
@@ -62,7 +62,7 @@ under-filter p (entry ∷ entries) under =
     (cases_Bool (p entry.0))
 
 -- the ranges under the begins that come after the range's begin, and before its end
-not_past : (x y : Point) → not (is_le (slice_cmp nat_cmp y x)) ≡ point_lt x y
+pub not_past : (x y : Point) → not (is_le (slice_cmp nat_cmp y x)) ≡ point_lt x y
 unfolding point_lt
 not_past x y = ap (λ o. not (is_le o)) (nat_list_cmp_total.antisymm y x) ∙ turned (slice_cmp nat_cmp x y)
   where
@@ -122,10 +122,10 @@ at_itself x = ap is_eq (tied_itself nat_list_cmp_total x)
 -- an entry whose key isn't named stays
 without-other : (keys : List Point) (entry : Point × Range) (entries : Entries)
     → AllByRecursion (λ key. point_lt entry.0 key ≡ true) keys
-    → without keys (entry ∷ entries) ≡ entry ∷ without keys entries
+    → without_points keys (entry ∷ entries) ≡ entry ∷ without_points keys entries
 without-other [] entry entries after = refl
 without-other (key ∷ keys) entry entries after =
-    ap (without keys) (cond-false _ _ _ (not_at entry.0 key after.0))
+    ap (without_points keys) (cond-false _ _ _ (not_at entry.0 key after.0))
     ∙ without-other keys entry (remove_entry (is_at (slice_cmp nat_cmp key)) entries) after.1
 
 -- the keys of sorted ranges that begin after a point, of which some pass a test
@@ -163,7 +163,7 @@ after_first entry entries key apart = after_by entry.0 entry.1 (values_of entrie
 -- without the keys within the range, the other entries are left
 without-within : (range : Range) (entries : Entries) → AreUnderBegins entries
     → is_apart (values_of entries) ≡ true
-    → without (keys_of (within_of range entries)) entries ≡ outside_of range entries
+    → without_points (keys_of (within_of range entries)) entries ≡ outside_of range entries
 without-within range [] under apart = refl
 without-within range (entry ∷ entries) under apart =
     let parts = under_parts entry entries under in
@@ -173,12 +173,12 @@ without-within range (entry ∷ entries) under apart =
     let keys = keys_after entry.0 (is_within range) entries parts.1 (after_first entry entries parts.0 apart) in
     ⊎_elim
     (λ inside.
-    ap (λ (l : Entries). without (keys_of l) (entry ∷ entries)) (cond-true _ _ _ inside)
-    ∙ ap (without (keys_of within)) (cond-true _ _ _ (at_itself entry.0))
+    ap (λ (l : Entries). without_points (keys_of l) (entry ∷ entries)) (cond-true _ _ _ inside)
+    ∙ ap (without_points (keys_of within)) (cond-true _ _ _ (at_itself entry.0))
     ∙ rest
     ∙ sym (cond-false _ _ _ (not_from_true _ inside)))
     (λ outside.
-    ap (λ (l : Entries). without (keys_of l) (entry ∷ entries)) (cond-false _ _ _ outside)
+    ap (λ (l : Entries). without_points (keys_of l) (entry ∷ entries)) (cond-false _ _ _ outside)
     ∙ without-other (keys_of within) entry entries keys
     ∙ ap (λ (l : Entries). entry ∷ l) rest
     ∙ sym (cond-true _ _ _ (not_from_false _ outside)))
@@ -192,7 +192,7 @@ put range entries = insert_entry (slice_cmp nat_cmp) entries range.begin range
 -- the entries with the range under its begin, and without those within it
 abbrev pub replaced : Range → Entries → Entries
 replaced range entries =
-    without (keys_of (within_of range entries)) (put range entries)
+    without_points (keys_of (within_of range entries)) (put range entries)
 
 swallowed-same : (range : Range) (entry : Point × Range) (entries : Entries)
     → AreUnderBegins (entry ∷ entries) → is_apart (values_of (entry ∷ entries)) ≡ true → entry.0 ≡ range.begin
@@ -206,8 +206,8 @@ swallowed-same range entry entries under apart same =
     let outside : is_within range entry.0 ≡ false =
     and_left _ _ (ap (point_lt range.begin) same ∙ lt-itself range.begin) in
     let keys = keys_after entry.0 (is_within range) entries parts.1 (after_first entry entries parts.0 apart) in
-    ap (λ (l : Entries). without (keys_of l) (put range (entry ∷ entries))) (cond-false _ _ _ outside)
-    ∙ ap (λ o. without (keys_of within) (match_ordering o ((range.begin, range) ∷ entry ∷ entries)
+    ap (λ (l : Entries). without_points (keys_of l) (put range (entry ∷ entries))) (cond-false _ _ _ outside)
+    ∙ ap (λ o. without_points (keys_of within) (match_ordering o ((range.begin, range) ∷ entry ∷ entries)
     ((entry.0, range) ∷ entries) (entry ∷ put range entries))) tied
     ∙ without-other (keys_of within) (entry.0, range) entries keys
     ∙ ap (λ (l : Entries). (entry.0, range) ∷ l) (without-within range entries parts.1 of_first.2)
@@ -221,7 +221,7 @@ swallowed-later range entry entries under apart later =
     let within = within_of range (entry ∷ entries) in
     let after = all_after range.begin (values_of (entry ∷ entries)) apart
     (ap (point_lt range.begin) (sym parts.0) ∙ later) in
-    ap (λ o. without (keys_of within) (match_ordering o ((range.begin, range) ∷ entry ∷ entries)
+    ap (λ o. without_points (keys_of within) (match_ordering o ((range.begin, range) ∷ entry ∷ entries)
     ((entry.0, range) ∷ entries) (entry ∷ put range entries)))
     (cmp_less range.begin entry.0 later)
     ∙ without-other (keys_of within) (range.begin, range) (entry ∷ entries)
@@ -236,8 +236,8 @@ replaced-sooner range entry entries under apart sooner =
     let within = within_of range entries in
     let outside : is_within range entry.0 ≡ false = and_left _ _ (lt_one_way entry.0 range.begin sooner) in
     let keys = keys_after entry.0 (is_within range) entries parts.1 (after_first entry entries parts.0 apart) in
-    ap (λ (l : Entries). without (keys_of l) (put range (entry ∷ entries))) (cond-false _ _ _ outside)
-    ∙ ap (λ o. without (keys_of within) (match_ordering o ((range.begin, range) ∷ entry ∷ entries)
+    ap (λ (l : Entries). without_points (keys_of l) (put range (entry ∷ entries))) (cond-false _ _ _ outside)
+    ∙ ap (λ o. without_points (keys_of within) (match_ordering o ((range.begin, range) ∷ entry ∷ entries)
     ((entry.0, range) ∷ entries) (entry ∷ put range entries)))
     (cmp_greater range.begin entry.0 sooner)
     ∙ without-other (keys_of within) entry (put range entries) keys
@@ -310,7 +310,7 @@ is_inserted range (entry ∷ entries) some under apart fits =
 -- the entries with the joined range under its begin, and without those that it swallows
 abbrev added : Range → Entries → Entries
 added joined entries =
-    without (begins_within joined entries) (put joined entries)
+    without_points (begins_within joined entries) (put joined entries)
 
 -- after a range was joined with those that it touches, the map has the list with the range inserted
 pub added-is : (range joined : Range) (entries result : Entries) → point_lt range.begin range.end ≡ true
@@ -324,7 +324,7 @@ added-is range joined entries result some under apart touched is =
     let made = is_inserted whole entries (some_touched range ranges some apart) under apart
     (touched_fits range ranges some apart) in
     let same : replaced whole entries ≡ result =
-    ap (λ keys. without keys (put whole entries))
+    ap (λ keys. without_points keys (put whole entries))
     (sym (begins_within-is whole entries))
     ∙ ap (λ (r : Range). added r entries) (sym touched)
     ∙ sym is in

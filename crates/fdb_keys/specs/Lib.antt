@@ -8,6 +8,7 @@ pub mod Insertion
 pub mod Joining
 pub mod KeyOrder
 pub mod Limits
+pub mod Ordered
 pub mod Points
 pub mod RangeMaps
 pub mod Ranges

@@ -29,6 +29,6 @@ abbrev pub begins_within : Range → Entries → List Point
 begins_within range entries =
     keys_of (entries_between (slice_cmp nat_cmp) (Excluded range.begin) (Included range.end) entries)
 
--- the entries without those under the begins
-abbrev pub without : List Point → Entries → Entries
-without begins entries = fold (λ rest begin. remove_entry (is_at (slice_cmp nat_cmp begin)) rest) entries begins
+-- the entries of a map without those under the points
+abbrev pub without_points : {V : Type 0} → List Point → List (Point × V) → List (Point × V)
+without_points points entries = fold (λ rest point. remove_entry (is_at (slice_cmp nat_cmp point)) rest) entries points

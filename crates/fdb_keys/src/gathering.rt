@@ -24,7 +24,7 @@ pub(crate) fn join_all(
 {
     let mut all = added_with(held, added)?;
     put_in_order(&mut all);
-    joined(alloc, all)
+    join_sorted(alloc, all)
 }
 
 // The added ranges, and behind them copies of those that are held.
@@ -49,7 +49,7 @@ fn put_in_order(ranges: &mut Vec<KeyRange>)
 }
 
 // The sorted ranges, with those joined that overlap or touch. Mostly none do: then the list stays as it is.
-fn joined(alloc: Global, ranges: Vec<KeyRange>) -> Result<Vec<KeyRange>, AllocError>
+fn join_sorted(alloc: Global, ranges: Vec<KeyRange>) -> Result<Vec<KeyRange>, AllocError>
     requires { IsTrue (is_in_order ranges.items) }
     ensures apart { IfOk result (λ joined. IsTrue (is_apart joined.items)) }
     ensures points { IfOk result (λ joined. (x : Point) → in_set joined.items x ≡ in_set ranges.items x) }

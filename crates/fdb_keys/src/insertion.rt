@@ -67,7 +67,7 @@ fn joined_with_all(range: &KeyRange, others: &[KeyRange]) -> Result<KeyRange, Al
 {
     let mut joined = range.clone()?;
     for other in others {
-        joined = joined.joined(other)?;
+        joined = joined.joined_range(other)?;
     }
     Ok(joined)
 }

@@ -266,7 +266,7 @@ impl KeyRange {
     }
 
     // The shortest range that holds both.
-    pub(crate) fn joined(&self, other: &KeyRange) -> Result<KeyRange, AllocError>
+    pub(crate) fn joined_range(&self, other: &KeyRange) -> Result<KeyRange, AllocError>
         ensures { IfOk result (λ range. range ≡ joined_range self.now other.now) }
     {
         let begin = lesser_bound(&self.begin, &other.begin)?;
@@ -293,9 +293,9 @@ fn side_by_side(alloc: Global, first: &[u8], second: &[u8]) -> Result<(Bytes, By
     let mut text = Vec::with_capacity(alloc, first.len().saturating_add(second.len()))?;
     text.extend_from_slice(first)?;
     text.extend_from_slice(second)?;
-    let mut front = Bytes::from_vec(text)?;
-    let rest = front.split_off(first.len())?;
-    Ok((front, rest))
+    let mut start = Bytes::from_vec(text)?;
+    let rest = start.split_off(first.len())?;
+    Ok((start, rest))
 }
 
 // The least text after the key.

@@ -7,7 +7,7 @@ ghost use Rattle.std.specs.Option.{option_copied};
 ghost use Rattle.std.specs.Ordering.{nat_cmp};
 ghost use Rattle.fdb_keys.specs.Points.{point_lt};
 ghost use Rattle.fdb_keys.specs.Ranges.{is_apart};
-ghost use Rattle.fdb_keys.specs.RangeMaps.{AreUnderBegins, HasAlso, begins_within, without};
+ghost use Rattle.fdb_keys.specs.RangeMaps.{AreUnderBegins, HasAlso, begins_within, without_points};
 ghost use Rattle.fdb_keys.specs.Removal.{outside};
 ghost use Rattle.fdb_keys.specs.Touching.{last_by, ends_by, joined_where_touching, joined_with_touched};
 
@@ -62,7 +62,7 @@ fn join_where_touching(range: KeyRange, other: Option<&KeyRange>) -> Result<KeyR
     ensures { IfOk result (λ joined. joined ≡ joined_where_touching range (option_copied other.entry)) }
 {
     match other {
-        Some(other) if !is_before(other.end(), range.begin()) => range.joined(other),
+        Some(other) if !is_before(other.end(), range.begin()) => range.joined_range(other),
         _ => Ok(range),
     }
 }
@@ -118,7 +118,7 @@ pub(crate) fn replace(
     others: &[Bytes],
 ) -> Result<(), AllocError>
     ensures ok { OnOk result (ranges.new.entries
-        ≡ without others.now (insert_entry (slice_cmp nat_cmp) ranges.old.entries range.begin range)) }
+        ≡ without_points others.now (insert_entry (slice_cmp nat_cmp) ranges.old.entries range.begin range)) }
     ensures err { OnErr result (ranges.new.entries ≡ ranges.old.entries) }
 {
     let begin = range.begin_text().clone()?;
@@ -184,8 +184,9 @@ fn replace_in_both(
     second_others: &[Bytes],
 ) -> Result<(), AllocError>
     ensures first { OnOk result (first.new.entries
-        ≡ without first_others.now (insert_entry (slice_cmp nat_cmp) first.old.entries first_range.begin first_range)) }
-    ensures second { OnOk result (second.new.entries ≡ without second_others.now
+        ≡ without_points first_others.now
+        (insert_entry (slice_cmp nat_cmp) first.old.entries first_range.begin first_range)) }
+    ensures second { OnOk result (second.new.entries ≡ without_points second_others.now
         (insert_entry (slice_cmp nat_cmp) second.old.entries second_range.begin second_range)) }
     ensures first_err { OnErr result (first.new.entries ≡ first.old.entries) }
     ensures second_err { OnErr result (second.new.entries ≡ second.old.entries) }
@@ -227,7 +228,8 @@ fn replace_beside_new(
 ) -> Result<(), AllocError>
     requires absent { lookup (is_at (slice_cmp nat_cmp begin.now)) second.old.entries ≡ None }
     ensures first { OnOk result (first.new.entries
-        ≡ without first_others.now (insert_entry (slice_cmp nat_cmp) first.old.entries first_range.begin first_range)) }
+        ≡ without_points first_others.now
+        (insert_entry (slice_cmp nat_cmp) first.old.entries first_range.begin first_range)) }
     ensures second { OnOk result (second.new.entries
         ≡ insert_entry (slice_cmp nat_cmp) second.old.entries begin.now second_range) }
     ensures first_err { OnErr result (first.new.entries ≡ first.old.entries) }
@@ -243,7 +245,7 @@ fn replace_beside_new(
 
 // Takes out the ranges under the begins.
 pub(crate) fn remove_all(ranges: &mut BTreeMap<Bytes, KeyRange>, begins: &[Bytes])
-    ensures { ranges.new.entries ≡ without begins.now ranges.old.entries }
+    ensures { ranges.new.entries ≡ without_points begins.now ranges.old.entries }
 {
     for begin in begins {
         ranges.remove(begin);

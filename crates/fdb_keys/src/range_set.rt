@@ -5,7 +5,7 @@ use crate::insertion::{Joined, join};
 use crate::items::Items;
 use crate::key_range::KeyRange;
 use crate::refusal::Refusal;
-use crate::removal::without;
+use crate::removal::without_range;
 use crate::shared_ranges::{SharedRanges, copies};
 use std::alloc::{AllocError, Global};
 use std::marker::Model;
@@ -116,7 +116,7 @@ impl RangeSet {
         ensures list { OnOk result (self.new ≡ without_range range.now self.old) }
         ensures err { OnErr result (self.new ≡ self.old) }
     {
-        let left = without(self.ranges.allocator(), self.ranges.as_slice(), range)?;
+        let left = without_range(self.ranges.allocator(), self.ranges.as_slice(), range)?;
         self.ranges = SharedRanges::from_items(Items::from_vec(left));
         Ok(())
     }

@@ -6,7 +6,7 @@ use crate::key_range::KeyRange;
 use std::alloc::{AllocError, Global};
 
 // What is left of the ranges without the range's points.
-pub(crate) fn without(
+pub(crate) fn without_range(
     alloc: Global,
     ranges: &[KeyRange],
     range: &KeyRange,

@@ -1,3 +1,2 @@
-mod PairsLemmas
 mod RingsLemmas
 mod SumsLemmas

@@ -12,6 +12,34 @@ use std::thread::{JoinHandle, Threads};
 /// A client that runs.
 pub(crate) type Client = JoinHandle<Played>;
 
+// Who plays in a thread. It is a type parameter where threads are started, so that the loan check doesn't go over what
+// a client has.
+trait Plays: Drop + Send + 'static {
+    // All of its tries, and what came of them.
+    fn play<R: Wait>(self, rt: &R) -> Played;
+}
+
+// What a client has.
+#[derive(Drop)]
+struct Player<B: ClusterName> {
+    alloc: Global,
+    session: Session<B>,
+    share: Share,
+    tally: Arc<Tally>,
+}
+
+impl<B: ClusterName + Send + Sync + 'static> Plays for Player<B> {
+    fn play<R: Wait>(self, rt: &R) -> Played {
+        let Player {
+            alloc,
+            session,
+            share,
+            tally,
+        } = self;
+        play(rt, alloc, session, share, &*tally)
+    }
+}
+
 /// Starts so many clients of the kind, each with a session and a number of its own. Where it is refused, those are
 /// left that were started.
 pub(crate) fn start<
@@ -46,20 +74,26 @@ fn start_one<
     tally: &Arc<Tally>,
 ) -> Result<Client, Refusal> {
     match Arc::try_clone(tally) {
-        Ok(tally) => spawn(rt, alloc, session, share, tally),
+        Ok(tally) => spawn(
+            rt,
+            Player {
+                alloc,
+                session,
+                share,
+                tally,
+            },
+        ),
         Err(_) => Err(Refusal::NoMemory),
     }
 }
 
-fn spawn<B: ClusterName + Send + Sync + 'static, R: Threads + Wait + Copy + Send + Sync + 'static>(
+// Starts the player's thread. Refused only as `NoMemory`.
+fn spawn<P: Plays, R: Threads + Wait + Copy + Send + Sync + 'static>(
     rt: &R,
-    alloc: Global,
-    session: Session<B>,
-    share: Share,
-    tally: Arc<Tally>,
+    player: P,
 ) -> Result<Client, Refusal> {
     let handle = *rt;
-    match thread::spawn(rt, move || play(&handle, alloc, session, share, &*tally)) {
+    match thread::spawn(rt, move || player.play(&handle)) {
         Ok(client) => Ok(client),
         Err(_) => Err(Refusal::NoMemory),
     }

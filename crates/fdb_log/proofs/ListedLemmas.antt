@@ -6,7 +6,7 @@ use Rattle.std.specs.Prelude.{◌==◌, filter, slice_set}
 use Rattle.std.specs.List.{AllByRecursion}
 use Rattle.std.proofs.lemmas.Bool.{cases_Bool, cond-true, cond-false, eqb-true, eq-eqb, and_parts, and_from, both_ways}
 use Rattle.std.proofs.lemmas.Bool.{not-true}
-use Rattle.fdb_txn.proofs.Exports.{all-append, all-weaken}
+use Rattle.fdb_keys.proofs.Exports.{all-append, all-weaken}
 use Rattle.fdb_log.specs.Places.{Holding, AreAdded, AreListed, AreRising, StartsAbove, has_place, is_place}
 use Rattle.fdb_log.specs.Places.{list_at, places_above}
 use Rattle.fdb_log.specs.TagSets.{is_among}

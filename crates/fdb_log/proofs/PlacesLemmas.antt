@@ -15,10 +15,9 @@ use Rattle.std.proofs.lemmas.Bool.{ne_eqb}
 use Rattle.std.proofs.lemmas.Bool.{and_parts, or_left, or_right, not-true, not-false}
 use Rattle.std.proofs.lemmas.List.Folds.{list_any-append}
 use Rattle.std.proofs.lemmas.Map.Keys.{sorted_head, sorted_tail}
-use Rattle.fdb_txn.proofs.Exports.{all-append, all-weaken}
+use Rattle.fdb_keys.proofs.Exports.{all-append, all-filter, all-weaken}
 use Rattle.fdb_log.specs.Places.{AreRising, StartsAbove, has_place, is_place, place_cmp, places_above}
 use Rattle.fdb_log.specs.Waiting.{Waiting}
-use Rattle.fdb_log.proofs.WaitingLemmas.{all-filter}
 
 -- ---- places that rise
 

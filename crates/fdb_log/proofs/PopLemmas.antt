@@ -7,8 +7,8 @@ use Rattle.std.specs.Option.{unwrap_or}
 use Rattle.std.proofs.lemmas.Bool.{cases_Bool, eqb-true, eqb-false}
 use Rattle.std.proofs.lemmas.List.{get_or-set_same, get_or-set_other, length-set}
 use Rattle.std.proofs.lemmas.Option.{unwrap_or-slice_get, slice_get_read}
+use Rattle.fdb_keys.proofs.Exports.{all-filter, all-weaken}
 use Rattle.fdb_txn.specs.declared.tag_msg.TagMsg.{TagMsg}
-use Rattle.fdb_txn.proofs.Exports.{all-weaken}
 use Rattle.fdb_log.specs.Logs.{Log, IsLog, HasPopped, kept, popped_through}
 use Rattle.fdb_log.specs.Messages.{above}
 use Rattle.fdb_log.specs.Peeks.{RiseAfter, through_after}
@@ -16,7 +16,7 @@ use Rattle.fdb_log.specs.Waiting.{Waiting, waits, waits_for_alone}
 use Rattle.fdb_log.proofs.FaultLemmas.{Speaks}
 use Rattle.fdb_log.proofs.RisingLemmas.{rises-above-from, through-above}
 use Rattle.fdb_log.proofs.ToldLemmas.{set-same, set-other}
-use Rattle.fdb_log.proofs.WaitingLemmas.{all-filter, all-passing, counts-apart, leaves-or_stays}
+use Rattle.fdb_log.proofs.WaitingLemmas.{all-passing, counts-apart, leaves-or_stays}
 
 -- the log with the tag popped through a version, its queue, and what waits
 abbrev pub with_popped : Log → (tag version : ℕ) → List TagMsg → List Waiting → Log

@@ -4,8 +4,8 @@ use Rattle.std.proofs.Common.{drop, length}
 use Rattle.std.proofs.Common.{arith}
 use Rattle.std.specs.List.{AllByRecursion}
 use Rattle.std.proofs.lemmas.List.{length-append, append-nil, drop_all, take_all}
+use Rattle.fdb_keys.proofs.Exports.{all-append, all-weaken}
 use Rattle.fdb_txn.specs.declared.tag_msg.TagMsg.{TagMsg}
-use Rattle.fdb_txn.proofs.Exports.{all-append, all-weaken}
 use Rattle.fdb_log.specs.declared.message.LogMsg.{LogMsg}
 use Rattle.fdb_log.specs.Logs.{Log, IsLog, HasTaken, keeps, kept, popped_through}
 use Rattle.fdb_log.specs.Messages.{tag_message}

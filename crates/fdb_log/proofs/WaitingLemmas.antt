@@ -12,8 +12,8 @@ use Rattle.std.proofs.lemmas.Bool.{ltb-true}
 use Rattle.std.proofs.lemmas.Bool.{eqb-true, eq-eqb, ne_eqb, and_parts, not-true, leb-true, or_left, or_right}
 use Rattle.std.proofs.lemmas.List.{take_more, append-nil, length-take}
 use Rattle.std.proofs.lemmas.List.Sums.{length-filter}
+use Rattle.fdb_keys.proofs.Exports.{all-append, all-weaken}
 use Rattle.fdb_txn.specs.Limits.{tag_limit}
-use Rattle.fdb_txn.proofs.Exports.{all-append, all-weaken}
 use Rattle.fdb_log.specs.declared.message.Tagged.{Tagged}
 use Rattle.fdb_log.specs.Waiting.{Waiting, ComesBefore, kept_among, waits, waits_for_alone, waiting_from}
 use Rattle.fdb_log.proofs.TagSetLemmas.{any-kept, any-of_kept}
@@ -29,10 +29,6 @@ all-passing P Q test (one ∷ items) follows holds =
     (λ fails. subst (AllByRecursion Q) (sym (cond-false (test one) _ _ fails))
     (all-passing P Q test items follows holds.1))
     (cases_Bool (test one))
-
-pub all-filter : {A : Type 0} (P : A → Type 0) (test : A → Bool) (items : List A) → AllByRecursion P items
-    → AllByRecursion P (filter test items)
-all-filter P test items holds = all-passing P P test items (λ one passes holds_here. holds_here) holds
 
 -- where all pass, all are picked
 pub filter-all : {A : Type 0} (test : A → Bool) (items : List A) → AllByRecursion (λ (one : A). test one ≡ true) items

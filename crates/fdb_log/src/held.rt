@@ -177,14 +177,20 @@ fn drop_unwaited(tags: &mut BTreeMap<(u64, usize), TagSet>, popped: &[u64], plac
     }
 }
 
+// The keys of a map rise. It does nothing else.
+fn know_rising(tags: &BTreeMap<(u64, usize), TagSet>)
+    ensures { IsStrictlySortedBy place_cmp (keys_of tags.now.entries) }
+{
+    let _count = tags.len();
+}
+
 // Whether a mutation is held at the place, for which no tag waits.
 fn is_unwaited(tags: &BTreeMap<(u64, usize), TagSet>, popped: &[u64], place: (u64, usize)) -> bool
     ensures rising { IsStrictlySortedBy place_cmp (keys_of tags.now.entries) }
     ensures test { MatchOption (lookup (is_at (place_cmp place)) tags.now.entries) (result ≡ false)
         (λ left. result ≡ not (waits (λ tag. unwrap_or (slice_get popped.now tag) 0) (place, left))) }
 {
-    // `len` says that the places rise.
-    let _count = tags.len();
+    know_rising(tags);
     match tags.get(&place) {
         Some(left) => !waits(popped, place.0, left),
         None => false,

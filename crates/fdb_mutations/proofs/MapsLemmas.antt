@@ -135,11 +135,12 @@ within-bounds range x = ap₂ (λ (from past : Bool). from && not past)
     twice true = refl
     twice false = refl
 
-pub between-within : (range : Range) (pairs : List (List ℕ × List ℕ))
-    → entries_between (slice_cmp nat_cmp) (Included range.begin) (Excluded range.end) pairs ≡ pairs_within range pairs
+pub between-within : {V : Type 0} (range : Range) (pairs : List (Point × V))
+    → entries_between (slice_cmp nat_cmp) (Included range.begin) (Excluded range.end) pairs
+    ≡ filter (λ (pair : Point × V). in_range range pair.0) pairs
 between-within range [] = refl
-between-within range (pair ∷ pairs) = ap₂
-    (λ (inside : Bool) (rest : List (List ℕ × List ℕ)). cond inside (pair ∷ rest) rest)
+between-within {V} range (pair ∷ pairs) = ap₂
+    (λ (inside : Bool) (rest : List (Point × V)). cond inside (pair ∷ rest) rest)
     (within-bounds range pair.0) (between-within range pairs)
 
 -- a count that is the limit, or more than there are items where the limit is 0
@@ -296,6 +297,10 @@ pair_eq-decides a b =
       λ same. parts.1 (ap (λ (pair : List ℕ × List ℕ). pair.0) same, ap (λ (pair : List ℕ × List ℕ). pair.1) same),
     )
 
+-- a comparison of two lists of pairs, item by item, tells whether they are one
+pub pairs-decide : (a b : List (List ℕ × List ℕ)) → Decides (pointwise pair_eq a b) (a ≡ b)
+pairs-decide = pointwise_decides pair_eq-decides
+
 -- sorted pairs are those of their map
 pub same-pairs : (a b : List (List ℕ × List ℕ)) → IsStrictlySortedBy (slice_cmp nat_cmp) (keys_of a)
     → IsStrictlySortedBy (slice_cmp nat_cmp) (keys_of b) → from_entries {R = slice_cmp nat_cmp} a ≡ from_entries b
@@ -307,6 +312,6 @@ pub equal-maps : (a b : List (List ℕ × List ℕ)) → IsStrictlySortedBy (sli
     → IsStrictlySortedBy (slice_cmp nat_cmp) (keys_of b)
     → Decides (pointwise pair_eq a b) (from_entries {R = slice_cmp nat_cmp} a ≡ from_entries b)
 equal-maps a b sorted_a sorted_b = (
-  λ equal. ap (from_entries {R = slice_cmp nat_cmp}) ((pointwise_decides pair_eq-decides a b).0 equal),
-  λ same. (pointwise_decides pair_eq-decides a b).1 (same-pairs a b sorted_a sorted_b same),
+  λ equal. ap (from_entries {R = slice_cmp nat_cmp}) ((pairs-decide a b).0 equal),
+  λ same. (pairs-decide a b).1 (same-pairs a b sorted_a sorted_b same),
 )

@@ -1,5 +1,4 @@
 -- Lists in an order, and what filters keep of them.
-use Rattle.std.specs.Prelude.{⊤}
 use Rattle.std.proofs.Common.{◌≡◌, ◌∙◌, sym, ap, ap₂, refl, subst, ℕ, zero, suc, ◌-◌, Bool, true, false, not, ◌&&◌}
 use Rattle.std.proofs.Common.{cond, List, [], ◌∷◌, ◌++◌, length, reverse, filter, Some, arith}
 use Rattle.std.specs.List.{AllByRecursion, slice_get}
@@ -7,34 +6,14 @@ use Rattle.std.proofs.lemmas.Bool.{cond_both, cond-true, cond-false, not_from_fa
 use Rattle.std.proofs.lemmas.List.{append-nil, append_assoc, reverse-append}
 use Rattle.std.proofs.lemmas.List.Elements.{filter-append}
 use Rattle.std.proofs.lemmas.Option.{none-some, same_Some}
+use Rattle.fdb_keys.specs.Ordered.{AreOrdered}
+use Rattle.fdb_keys.proofs.Exports.{all-append, all-filter, all-parts, all-weaken, ordered-push}
 
--- each item stands before all that follow it
-abbrev pub AreOrdered : {A : Type 0} → (A → A → Bool) → List A → Type 0
-AreOrdered before [] = ⊤
-AreOrdered before (x ∷ xs) = AllByRecursion (λ y. before x y ≡ true) xs × AreOrdered before xs
+-- each item stands before all that follow it, by a test
+abbrev pub AreOrderedBy : {A : Type 0} → (A → A → Bool) → List A → Type 0
+AreOrderedBy before xs = AreOrdered (λ x y. before x y ≡ true) xs
 
 -- ---- what holds of each item
-all-map : {A : Type 0} {P Q : A → Type 0} → ((a : A) → P a → Q a) → (xs : List A) → AllByRecursion P xs
-    → AllByRecursion Q xs
-all-map step [] all = tt
-all-map step (x ∷ xs) all = (step x all.0, all-map step xs all.1)
-
-all-filter : {A : Type 0} (P : A → Type 0) (test : A → Bool) (xs : List A) → AllByRecursion P xs
-    → AllByRecursion P (filter test xs)
-all-filter P test [] all = tt
-all-filter P test (x ∷ xs) all =
-    let rest = all-filter P test xs all.1 in
-    cond_both (test x) (x ∷ filter test xs) (filter test xs) (AllByRecursion P) (λ kept. (all.0, rest)) (λ left. rest)
-
-all-append : {A : Type 0} (P : A → Type 0) (xs ys : List A) → AllByRecursion P xs → AllByRecursion P ys
-    → AllByRecursion P (xs ++ ys)
-all-append P [] ys all others = others
-all-append P (x ∷ xs) ys all others = (all.0, all-append P xs ys all.1 others)
-
-all_behind : {A : Type 0} (P : A → Type 0) (xs ys : List A) → AllByRecursion P (xs ++ ys) → AllByRecursion P ys
-all_behind P [] ys all = all
-all_behind P (x ∷ xs) ys all = all_behind P xs ys all.1
-
 pub all-reverse : {A : Type 0} (P : A → Type 0) (xs : List A) → AllByRecursion P xs → AllByRecursion P (reverse xs)
 all-reverse P [] all = tt
 all-reverse P (x ∷ xs) all =
@@ -56,28 +35,20 @@ all_at P (y ∷ xs) ys zero x is all = subst P (same_Some y x is) all.0
 all_at P (y ∷ xs) ys (suc i) x is all = all_at P xs ys i x is all.1
 
 -- ---- lists in an order
-pub ordered-filter : {A : Type 0} (before : A → A → Bool) (test : A → Bool) (xs : List A) → AreOrdered before xs
-    → AreOrdered before (filter test xs)
+pub ordered-filter : {A : Type 0} (before : A → A → Bool) (test : A → Bool) (xs : List A) → AreOrderedBy before xs
+    → AreOrderedBy before (filter test xs)
 ordered-filter before test [] ordered = tt
 ordered-filter before test (x ∷ xs) ordered =
     let rest = ordered-filter before test xs ordered.1 in
-    cond_both (test x) (x ∷ filter test xs) (filter test xs) (AreOrdered before)
+    cond_both (test x) (x ∷ filter test xs) (filter test xs) (AreOrderedBy before)
     (λ kept. (all-filter (λ y. before x y ≡ true) test xs ordered.0, rest)) (λ left. rest)
 
-ordered-last : {A : Type 0} (before : A → A → Bool) (xs : List A) (last : A) → AreOrdered before xs
-    → AllByRecursion (λ x. before x last ≡ true) xs → AreOrdered before (xs ++ last ∷ [])
-ordered-last before [] last ordered all = (tt, tt)
-ordered-last before (x ∷ xs) last ordered all = (
-  all-append (λ y. before x y ≡ true) xs (last ∷ []) ordered.0 (all.0, tt),
-  ordered-last before xs last ordered.1 all.1,
-)
-
-pub ordered-reverse : {A : Type 0} (before : A → A → Bool) (xs : List A) → AreOrdered before xs
-    → AreOrdered (λ x y. before y x) (reverse xs)
+pub ordered-reverse : {A : Type 0} (before : A → A → Bool) (xs : List A) → AreOrderedBy before xs
+    → AreOrderedBy (λ x y. before y x) (reverse xs)
 ordered-reverse before [] ordered = tt
 ordered-reverse before (x ∷ xs) ordered =
-    subst (AreOrdered (λ a b. before b a)) (sym (reverse-append (x ∷ []) xs))
-    (ordered-last (λ a b. before b a) (reverse xs) x (ordered-reverse before xs ordered.1)
+    subst (AreOrderedBy (λ a b. before b a)) (sym (reverse-append (x ∷ []) xs))
+    (ordered-push (λ a b. before b a ≡ true) (reverse xs) x (ordered-reverse before xs ordered.1)
     (all-reverse (λ y. before x y ≡ true) xs ordered.0))
 
 -- ---- what filters keep
@@ -119,7 +90,7 @@ filter_both p q r both (x ∷ xs) =
 
 -- What passes a test that no item passes behind one that fails stands before all that fails.
 pub parted : {A : Type 0} (before : A → A → Bool) (test : A → Bool)
-    → ((x y : A) → before x y ≡ true → test x ≡ false → test y ≡ false) → (xs : List A) → AreOrdered before xs
+    → ((x y : A) → before x y ≡ true → test x ≡ false → test y ≡ false) → (xs : List A) → AreOrderedBy before xs
     → xs ≡ filter test xs ++ filter (λ x. not (test x)) xs
 parted before test falls [] ordered = refl
 parted before test falls (x ∷ xs) ordered =
@@ -128,9 +99,9 @@ parted before test falls (x ∷ xs) ordered =
     → x ∷ xs ≡ cond b (x ∷ filter test xs) (filter test xs) ++ cond (not b) (x ∷ others) others) [
       | true ↦ λ passes. ap (λ ys. x ∷ ys) (parted before test falls xs ordered.1)
       | false ↦ λ fails.
-          let fail = all-map (λ y later. falls x y later fails) xs ordered.0 in
+          let fail = all-weaken _ _ (λ y later. falls x y later fails) xs ordered.0 in
           sym (ap₂ (λ ys zs. ys ++ x ∷ zs) (filter_none test xs fail)
-          (filter_all (λ y. not (test y)) xs (all-map (λ y failed. not_from_false (test y) failed) xs fail)))
+          (filter_all (λ y. not (test y)) xs (all-weaken _ _ (λ y failed. not_from_false (test y) failed) xs fail)))
     ] refl
 
 -- ---- the first items of a list, up to a last one
@@ -146,21 +117,21 @@ split_last x (y ∷ ys) last is =
 
 through_last : {A : Type 0} (before : A → A → Bool) → ((x : A) → before x x ≡ false)
     → ((x y : A) → before x y ≡ true → before y x ≡ false) → (front : List A) (last : A) (rest : List A)
-    → AreOrdered before (front ++ last ∷ rest)
+    → AreOrderedBy before (front ++ last ∷ rest)
     → filter (λ x. not (before last x)) (front ++ last ∷ rest) ≡ front ++ last ∷ []
 through_last before itself one_way [] last rest ordered =
     cond-true _ _ _ (not_from_false _ (itself last))
     ∙ ap (λ ys. last ∷ ys)
-    (filter_none (λ x. not (before last x)) rest (all-map (λ x later. ap not later) rest ordered.0))
+    (filter_none (λ x. not (before last x)) rest (all-weaken _ _ (λ x later. ap not later) rest ordered.0))
 through_last before itself one_way (x ∷ front) last rest ordered =
-    let later = all_behind (λ y. before x y ≡ true) front (last ∷ rest) ordered.0 in
+    let later = (all-parts (λ y. before x y ≡ true) front (last ∷ rest) ordered.0).1 in
     cond-true _ _ _ (not_from_false _ (one_way x last later.0))
     ∙ ap (λ ys. x ∷ ys) (through_last before itself one_way front last rest ordered.1)
 
 -- What doesn't stand behind the last of the first items are these.
 pub kept_through_last : {A : Type 0} (before : A → A → Bool) → ((x : A) → before x x ≡ false)
     → ((x y : A) → before x y ≡ true → before y x ≡ false) → (items first rest : List A) → first ++ rest ≡ items
-    → AreOrdered before items → (last : A) → slice_get first (length first - 1) ≡ Some last
+    → AreOrderedBy before items → (last : A) → slice_get first (length first - 1) ≡ Some last
     → filter (λ x. not (before last x)) items ≡ first
 kept_through_last before itself one_way items [] rest are ordered last is = absurd (none-some last is)
 kept_through_last before itself one_way items (x ∷ xs) rest are ordered last is =
@@ -169,5 +140,5 @@ kept_through_last before itself one_way items (x ∷ xs) rest are ordered last i
     let parts : items ≡ split.0 ++ last ∷ rest =
     sym are ∙ ap (λ ys. ys ++ rest) split.1 ∙ append_assoc split.0 (last ∷ []) rest in
     ap (filter (λ y. not (before last y))) parts
-    ∙ through_last before itself one_way split.0 last rest (subst (AreOrdered before) parts ordered)
+    ∙ through_last before itself one_way split.0 last rest (subst (AreOrderedBy before) parts ordered)
     ∙ sym split.1

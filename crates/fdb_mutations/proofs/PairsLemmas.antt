@@ -21,7 +21,7 @@ use Rattle.fdb_mutations.specs.Maps.{Map}
 use Rattle.fdb_mutations.specs.Pairs.{pairs_within, pairs_in}
 use Rattle.fdb_mutations.specs.PairLaws.{RangeHasThePairsOfItsParts, PairsFromAKeyOn, KeyHasItsPair}
 use Rattle.fdb_mutations.specs.PairLaws.{SameValuesSamePairs, NoValuesNoPairs, pair_of}
-use Rattle.fdb_mutations.proofs.OrderedLemmas.{AreOrdered, all-passes, all-reverse, ordered-filter, ordered-reverse}
+use Rattle.fdb_mutations.proofs.OrderedLemmas.{AreOrderedBy, all-passes, all-reverse, ordered-filter, ordered-reverse}
 use Rattle.fdb_mutations.proofs.OrderedLemmas.{filter-reverse, filter_both, parted}
 
 -- ---- the pairs are in the order of their keys
@@ -36,13 +36,13 @@ all_after key [] below = tt
 all_after key (pair ∷ pairs) below = let parts = and_parts _ _ below in (parts.0, all_after key pairs parts.1)
 
 ordered-sorted : (pairs : List (Point × List ℕ)) → is_sorted (slice_cmp nat_cmp) pairs ≡ true
-    → AreOrdered (λ a b. point_lt a.0 b.0) pairs
+    → AreOrderedBy (λ a b. point_lt a.0 b.0) pairs
 ordered-sorted [] sorted = tt
 ordered-sorted (pair ∷ pairs) sorted =
     let parts = and_parts _ _ sorted in (all_after pair.0 pairs parts.0, ordered-sorted pairs parts.1)
 
 ordered-within : (map : Map) (range : Range)
-    → AreOrdered (λ a b. point_lt a.0 b.0) (pairs_within range (entries map))
+    → AreOrderedBy (λ a b. point_lt a.0 b.0) (pairs_within range (entries map))
 ordered-within map range = ordered-filter (λ a b. point_lt a.0 b.0) (λ pair. in_range range pair.0) (entries map)
     (ordered-sorted (entries map) (true_from_T _ (entries_sorted map)))
 
@@ -52,7 +52,7 @@ comes_before false x y = point_lt x y
 comes_before true x y = point_lt y x
 
 pub ordered-pairs_in : (map : Map) (range : Range) (is_reverse : Bool)
-    → AreOrdered (λ a b. comes_before is_reverse a.0 b.0) (pairs_in map range is_reverse)
+    → AreOrderedBy (λ a b. comes_before is_reverse a.0 b.0) (pairs_in map range is_reverse)
 ordered-pairs_in map range false = ordered-within map range
 ordered-pairs_in map range true = ordered-reverse (λ a b. point_lt a.0 b.0) _ (ordered-within map range)
 

@@ -11,7 +11,7 @@ ghost use Rattle.fdb_mutations.specs.Naming.{named_by};
 ghost use Rattle.fdb_mutations.specs.declared.mutation.Mutation.TheVariants.{Set, Clear, ClearRange};
 
 use crate::operands::{
-    added, and, byte_max, byte_min, copy, is_addend, max, min, or, without, xor,
+    added, and, byte_max, byte_min, copy, is_addend, max, min, or, unless_equal, xor,
 };
 use bytes::Bytes;
 use fdb_keys::{Key, KeyRange, Refusal};
@@ -166,7 +166,7 @@ impl Mutation {
             Mutation::Min { operand, .. } => Ok(Some(min(alloc, value, operand)?)),
             Mutation::ByteMin { operand, .. } => Ok(Some(byte_min(value, operand)?)),
             Mutation::ByteMax { operand, .. } => Ok(Some(byte_max(value, operand)?)),
-            Mutation::CompareAndClear { operand, .. } => without(value, operand),
+            Mutation::CompareAndClear { operand, .. } => unless_equal(value, operand),
         }
     }
 

@@ -185,7 +185,7 @@ pub(crate) fn byte_max(value: Option<&Bytes>, operand: &Bytes) -> Result<Bytes, 
 }
 
 /// No value where it is the operand, and else the value.
-pub(crate) fn without(value: Option<&Bytes>, operand: &Bytes) -> Result<Option<Bytes>, Refusal>
+pub(crate) fn unless_equal(value: Option<&Bytes>, operand: &Bytes) -> Result<Option<Bytes>, Refusal>
     ensures { Answers result None (λ new. new
         ≡ (if has_value (option_copied value.entry) operand.now then None else option_copied value.entry)) }
 {

@@ -1,34 +1,18 @@
 -- Changes of a history, the latest first, as a search finds them.
-use Rattle.std.proofs.Common.{◌≡◌, ◌∙◌, sym, ap, refl, subst, ℕ, zero, suc, ◌<◌, ◌≤◌, Bool, true, false, ◌&&◌, ◌||◌}
-use Rattle.std.proofs.Common.{◌==◌, nat_lt, nat_le, List, [], ◌∷◌, ◌++◌, length, get_or, ⊎_elim, arith}
+use Rattle.std.proofs.Common.{◌≡◌, ◌∙◌, sym, ap, refl, subst, ℕ, suc, ◌<◌, ◌≤◌, Bool, true, false, ◌&&◌, ◌||◌}
+use Rattle.std.proofs.Common.{◌==◌, nat_lt, nat_le, List, [], ◌∷◌, ◌++◌, length, ⊎_elim, arith}
 use Rattle.std.specs.List.{AllByRecursion, filter, list_any, prefix_len}
 use Rattle.std.specs.List.Sorted.{IsPartitionPoint}
 use Rattle.std.proofs.lemmas.Bool.{cases_Bool, cond-true, cond-false, lt-ltb, le-ltb, le-leb, lt-leb}
 use Rattle.std.proofs.lemmas.List.Sums.{prefix_len_is}
 use Rattle.std.proofs.lemmas.List.{append-nil}
 use Rattle.std.proofs.lemmas.List.Elements.{filter-append}
-use Rattle.fdb_txn.proofs.Exports.{all-weaken}
+use Rattle.fdb_keys.proofs.Exports.{all-weaken}
 use Rattle.fdb_owners.specs.declared.history.Change.{Change}
 use Rattle.fdb_owners.specs.Histories.{AreAbove, AreUpTo, owner_by}
 use Rattle.fdb_owners.specs.Parts.{changes_within}
 
 -- ---- any list
-pub all-at : {X : Type 0} (P : X → Type 0) (xs : List X) → AllByRecursion P xs → (k : ℕ) (d : X) → k < length xs
-    → P (get_or xs k d)
-all-at P [] all k d within = absurd (omega (arith, within))
-all-at P (x ∷ xs) all zero d within = all.0
-all-at P (x ∷ xs) all (suc k) d within = all-at P xs all.1 k d (omega (arith, within))
-
-pub all-filter : {X : Type 0} (P : X → Type 0) (p : X → Bool) (xs : List X) → AllByRecursion P xs
-    → AllByRecursion P (filter p xs)
-all-filter P p [] all = tt
-all-filter P p (x ∷ xs) all = ⊎_elim
-    (λ passes. subst (AllByRecursion P) (sym (cond-true (p x) (x ∷ filter p xs) (filter p xs) passes))
-    (all.0, all-filter P p xs all.1))
-    (λ fails. subst (AllByRecursion P) (sym (cond-false (p x) (x ∷ filter p xs) (filter p xs) fails))
-    (all-filter P p xs all.1))
-    (cases_Bool (p x))
-
 filter-all : {X : Type 0} (p : X → Bool) (xs : List X) → AllByRecursion (λ (x : X). p x ≡ true) xs → filter p xs ≡ xs
 filter-all p [] all = refl
 filter-all {X} p (x ∷ xs) all =

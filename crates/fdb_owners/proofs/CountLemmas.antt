@@ -1,94 +1,25 @@
 -- How many versions give another owner, by the changes.
-use Rattle.std.proofs.Common.{◌≡◌, ◌∙◌, sym, ap, ap₂, subst, refl, ℕ, zero, suc, ◌+◌, ◌<◌, ◌≤◌, Bool, true, false, ◌&&◌}
-use Rattle.std.proofs.Common.{◌==◌, not}
-use Rattle.std.proofs.Common.{nat_le, List, [], ◌∷◌, ◌++◌, if◌then◌else◌, arith, ⊎_elim}
-use Rattle.std.proofs.lemmas.Bool.{cond-true, cond-false, cases_lt, le-leb, lt-leb, leb-true, eq-eqb}
+use Rattle.std.proofs.Common.{◌≡◌, ◌∙◌, sym, ap₂, subst, refl, ℕ, zero, suc, ◌+◌, ◌<◌, ◌≤◌, Bool, true, false}
+use Rattle.std.proofs.Common.{◌==◌, not, nat_le, List, [], ◌∷◌, ◌++◌, if◌then◌else◌, arith}
+use Rattle.std.proofs.lemmas.Bool.{cond-true, cond-false, le-leb, lt-leb, eq-eqb}
 use Rattle.std.specs.List.{AllByRecursion}
+use Rattle.fdb_keys.proofs.Exports.{all-weaken}
+use Rattle.fdb_txn.specs.Versions.{count_between}
+use Rattle.fdb_txn.proofs.Exports.{count-alike, count-around, count-steady, one_if}
 use Rattle.fdb_owners.specs.declared.history.Change.{Change}
-use Rattle.fdb_owners.specs.Histories.{owner_by, AreFalling, AreAbove, AreUpTo, latest_of, differing}
-use Rattle.fdb_owners.specs.Histories.{changes_at, count_between}
-use Rattle.fdb_owners.proofs.HistoryLemmas.{owner-through, owner-cut, up_to-weaken}
+use Rattle.fdb_owners.specs.Histories.{owner_by, AreFalling, AreAbove, AreUpTo, latest_of, differing, changes_at}
+use Rattle.fdb_owners.proofs.HistoryLemmas.{owner-through, owner-cut}
 
-abbrev one_if : Bool → ℕ
-one_if test = if test then 1 else 0
+abbrev same_owner : ℕ → ℕ → Bool
+same_owner owner other = owner == other
 
--- tests that agree between the versions count alike
-pub count-same : (test other : ℕ → Bool) (low high : ℕ)
-    → ((v : ℕ) → low ≤ v → v < high → test (suc v) ≡ other (suc v))
-    → count_between test low high ≡ count_between other low high
-count-same test other low zero same = refl
-count-same test other low (suc v) same =
-    ap (λ (n : ℕ). n + one_if (nat_le low v && test (suc v)))
-    (count-same test other low v (λ w from below. same w from (omega arith)))
-    ∙ ap (λ (n : ℕ). count_between other low v + n) (last (nat_le low v)
-    (λ reached. same v (leb-true low v reached) (omega arith)))
-  where
-    last : (reached : Bool) → (reached ≡ true → test (suc v) ≡ other (suc v))
-        → one_if (reached && test (suc v)) ≡ one_if (reached && other (suc v))
-    last true same_there = ap one_if (same_there refl)
-    last false same_there = refl
+itself : (owner : ℕ) → same_owner owner owner ≡ true
+itself owner = eq-eqb owner owner refl
 
--- where no test passes there is none
-pub count-none : (test : ℕ → Bool) (low high : ℕ) → ((v : ℕ) → low ≤ v → v < high → test (suc v) ≡ false)
-    → count_between test low high ≡ 0
-count-none test low high none = count-same test (λ v. false) low high none ∙ nowhere low high
-  where
-    none_there : (reached : Bool) → 0 + one_if (reached && false) ≡ 0
-    none_there true = refl
-    none_there false = refl
-
-    nowhere : (low high : ℕ) → count_between (λ v. false) low high ≡ 0
-    nowhere low zero = refl
-    nowhere low (suc v) = ap (λ (n : ℕ). n + one_if (nat_le low v && false)) (nowhere low v) ∙ none_there (nat_le low v)
-
--- what lies above a version where no test passes doesn't count
-pub count-front : (test : ℕ → Bool) (low middle high : ℕ) → middle ≤ high
-    → ((v : ℕ) → middle ≤ v → v < high → test (suc v) ≡ false)
-    → count_between test low high ≡ count_between test low middle
-count-front test low zero zero order none = refl
-count-front test low (suc middle) zero order none = absurd (omega arith)
-count-front test low middle (suc v) order none =
-    ⊎_elim
-    (λ (below : middle < suc v).
-    ap (λ (n : ℕ). n + one_if (nat_le low v && test (suc v)))
-    (count-front test low middle v (omega arith) (λ w from under. none w from (omega arith)))
-    ∙ ap (λ (passes : Bool). count_between test low middle + one_if (nat_le low v && passes))
-    (none v (omega arith) (omega arith))
-    ∙ added_none (nat_le low v) (count_between test low middle))
-    (λ (reached : suc v ≤ middle).
-    ap (λ (n : ℕ). count_between test low n) (all_of_it reached))
-    (cases_lt middle (suc v))
-  where
-    added_none : (reached : Bool) (n : ℕ) → n + one_if (reached && false) ≡ n
-    added_none true n = omega arith
-    added_none false n = omega arith
-
-    all_of_it : suc v ≤ middle → suc v ≡ middle
-    all_of_it reached = omega arith
-
--- with the versions up to one at which the test may pass
-pub count-last : (test : ℕ → Bool) (low v : ℕ) → low ≤ v
-    → count_between test low (suc v) ≡ count_between test low v + one_if (test (suc v))
-count-last test low v from =
-    ap (λ (reached : Bool). count_between test low v + one_if (reached && test (suc v))) (le-leb low v from)
-
--- an owner that is the one before is no change
-no_change : (after before : ℕ) → after ≡ before → not (after == before) ≡ false
-no_change after before is = ap not (eq-eqb after before is)
-
--- changes up to a version leave the owner from then on
-settled : (first : ℕ) (changes : List Change) (last v : ℕ) → AreUpTo last changes → last ≤ v
-    → changes_at (owner_by first changes) (suc v) ≡ false
-settled first changes last v through from =
-    no_change _ _
-    (owner-through first changes (suc v) (up_to-weaken last (suc v) changes (omega arith) through)
-    ∙ sym (owner-through first changes v (up_to-weaken last v changes from through)))
-
--- changes up to one version are below a later one
+-- changes that are below a version are up to the one before it
 falling-up_to : (v : ℕ) (changes : List Change) → AllByRecursion (λ (one : Change). one.version < suc v) changes
     → AreUpTo v changes
-falling-up_to v [] all = tt
-falling-up_to v (change ∷ older) all = (omega (arith, all), falling-up_to v older all.1)
+falling-up_to v changes = all-weaken _ _ (λ (one : Change) below. omega (arith, below)) changes
 
 one-not : (is : Bool) → (if is then 0 else 1) ≡ one_if (not is)
 one-not true = refl
@@ -100,28 +31,32 @@ count-latest : (first : ℕ) (change : Change) (older : List Change) (floor last
     → differing first older ≡ count_between (changes_at (owner_by first older)) floor v
     → differing first (change ∷ older) ≡ count_between (changes_at (owner_by first (change ∷ older))) floor last
 count-latest first change older floor last v is from within below counted =
-    ap₂ (λ (n m : ℕ). n + m) (counted ∙ before) here
-    ∙ sym (count-last test floor v from)
-    ∙ sym (count-front test floor (suc v) last within
-    (λ w above under. no_change _ _ (reached (suc w) (omega arith) ∙ sym (reached w above))))
+    (λ i. (counted ∙ before) i + here i)
+    ∙ none_after (count_between test floor v) (one_if (not (same_owner (owner_of (suc v)) (owner_of v))))
+    (count-steady same_owner itself owner_of change.owner (suc v) last (λ w above under. reached w above))
+    ∙ sym (count-around same_owner owner_of floor v last from (omega (arith, within)))
   where
-    test : ℕ → Bool
-    test = changes_at (owner_by first (change ∷ older))
+    owner_of : ℕ → ℕ
+    owner_of w = owner_by first (change ∷ older) w
 
-    reached : (w : ℕ) → suc v ≤ w → owner_by first (change ∷ older) w ≡ change.owner
+    test : ℕ → Bool
+    test = changes_at owner_of
+
+    none_after : (n m : ℕ) → count_between test (suc v) last ≡ 0 → n + m ≡ n + (m + count_between test (suc v) last)
+    none_after n m none = omega (arith, none)
+
+    reached : (w : ℕ) → suc v ≤ w → owner_of w ≡ change.owner
     reached w above = cond-true (nat_le change.version w) _ _ (le-leb change.version w (omega (arith, is, above)))
 
-    unreached : (w : ℕ) → w ≤ v → owner_by first (change ∷ older) w ≡ owner_by first older w
+    unreached : (w : ℕ) → w ≤ v → owner_of w ≡ owner_by first older w
     unreached w under = cond-false (nat_le change.version w) _ _ (lt-leb change.version w (omega (arith, is, under)))
 
     before : count_between (changes_at (owner_by first older)) floor v ≡ count_between test floor v
     before =
-        count-same (changes_at (owner_by first older)) test floor v
-        (λ w above under.
-        ap₂ (λ (after ago : ℕ). not (after == ago)) (sym (unreached (suc w) (omega arith)))
-        (sym (unreached w (omega arith))))
+        count-alike same_owner (owner_by first older) owner_of floor v (λ w above under. sym (unreached w under))
 
-    here : (if change.owner == latest_of first older then 0 else 1) ≡ one_if (test (suc v))
+    here : (if change.owner == latest_of first older then 0 else 1)
+        ≡ one_if (not (same_owner (owner_of (suc v)) (owner_of v)))
     here =
         one-not (change.owner == latest_of first older)
         ∙ ap₂ (λ (after ago : ℕ). one_if (not (after == ago))) (sym (reached (suc v) (omega arith)))
@@ -138,7 +73,7 @@ pub count-changes : (first : ℕ) (changes : List Change) (floor last : ℕ) →
     → AreUpTo last changes
     → differing first changes ≡ count_between (changes_at (owner_by first changes)) floor last
 count-changes first [] floor last falling above through =
-    sym (count-none (changes_at (owner_by first [])) floor last (λ v from within. no_change first first refl))
+    sym (count-steady same_owner itself (owner_by first []) first floor last (λ v at under. refl))
 count-changes first (change ∷ older) floor last falling above through =
     by_version change.version refl (count-changes first older floor)
   where
@@ -159,9 +94,5 @@ pub count-above : (first : ℕ) (above through : List Change) (floor last : ℕ)
     ++ through))) floor last
 count-above first above through floor last falling are_above within known =
     count-changes (latest_of first through) above floor last falling are_above within
-    ∙ count-same (changes_at (owner_by (latest_of first through) above)) (changes_at (owner_by first (above
-    ++ through)))
-    floor last
-    (λ v from under.
-    ap₂ (λ (after ago : ℕ). not (after == ago)) (owner-cut first above through floor (suc v) known (omega arith))
-    (owner-cut first above through floor v known from))
+    ∙ count-alike same_owner (owner_by (latest_of first through) above) (owner_by first (above ++ through)) floor last
+    (λ v from under. owner-cut first above through floor v known from)

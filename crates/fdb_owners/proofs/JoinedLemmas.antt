@@ -57,9 +57,9 @@ value-joined before (e ∷ es) x rising =
         ∙ sym (ap (λ (h : History). value_from h es x) (cond-false _ _ _ reached))
 
 pub joined-decides : (pieces others : Pieces) → AreRising pieces.breaks.entries → AreRising others.breaks.entries
-    → others.front ≡ pieces.front → joined others ≡ joined pieces → (x : Point)
+    → others.lowest ≡ pieces.lowest → joined others ≡ joined pieces → (x : Point)
     → history_at others x ≡ history_at pieces x
 joined-decides pieces others rising others_rising front same x =
-    sym (value-joined others.front others.breaks.entries x others_rising)
+    sym (value-joined others.lowest others.breaks.entries x others_rising)
     ∙ (λ i. value_from (front i) (same i) x)
-    ∙ value-joined pieces.front pieces.breaks.entries x rising
+    ∙ value-joined pieces.lowest pieces.breaks.entries x rising

@@ -38,14 +38,15 @@ after-same version touches others from history (move ∷ moves) same =
 pub history-learnt : (version : ℕ) (moves : List Move) (pieces : Pieces) (x : Point)
     → AreRising pieces.breaks.entries
     → AllByRecursion (λ (move : Move). HasBounds pieces move.range) moves
-    → value_from pieces.front (with_fresh pieces.breaks.entries (fresh_of version moves pieces.breaks.entries)) x
+    → value_from pieces.lowest (with_fresh pieces.breaks.entries (fresh_of version moves pieces.breaks.entries)) x
     ≡ after version (λ range. in_range range x) (history_at pieces x) moves (history_at pieces x)
 history-learnt version moves pieces x rising bounds =
     let es = pieces.breaks.entries in
     let made = λ (place : Option Point) (history : History).
     after version (λ range. place_in range place) history moves history in
-    ap (λ (l : Breaks History). value_from pieces.front l x) (with_fresh-after version moves es rising)
-    ∙ value-remade made pieces.front pieces.front None es x (sym (after-none version pieces.front pieces.front moves))
+    ap (λ (l : Breaks History). value_from pieces.lowest l x) (with_fresh-after version moves es rising)
+    ∙ value-remade made pieces.lowest pieces.lowest None es x
+    (sym (after-none version pieces.lowest pieces.lowest moves))
     ∙ after-same version (λ range. place_in range (place_from None es x)) (λ range. in_range range x)
     (history_at pieces x) (history_at pieces x) moves (all_within moves bounds)
   where
@@ -128,15 +129,15 @@ after-is-history resolvers last version later x from history (move ∷ moves) wi
 pub pieces-learnt : (resolvers last version : ℕ) (moves : List Move) (pieces others : Pieces)
     → AreRising pieces.breaks.entries → last < version
     → AllByRecursion (λ (move : Move). move.to < resolvers) moves
-    → others.front ≡ pieces.front
+    → others.lowest ≡ pieces.lowest
     → others.breaks.entries ≡ with_fresh pieces.breaks.entries (fresh_of version moves pieces.breaks.entries)
     → IsPieces resolvers last pieces → IsPieces resolvers version others
 pieces-learnt resolvers last version moves pieces others rising later within front entries are =
     let P = λ (piece : Point × History). (is_bound piece.0 ≡ true) × IsHistory resolvers last piece.1 in
     let Q = λ (piece : Point × History). (is_bound piece.0 ≡ true) × IsHistory resolvers version piece.1 in
     record {
-      front = subst (IsHistory resolvers version) (sym front)
-          (history-later resolvers last version later pieces.front are.front);
+      lowest = subst (IsHistory resolvers version) (sym front)
+          (history-later resolvers last version later pieces.lowest are.lowest);
       breaks = subst (AllByRecursion Q)
           (sym (entries ∙ with_fresh-after version moves pieces.breaks.entries rising))
           (all-remade (λ x history. after version (λ range. in_range range x) history moves history) P Q
@@ -151,7 +152,7 @@ pieces-learnt resolvers last version moves pieces others rising later within fro
 pub owners-learnt : (version : ℕ) (moves : List Move) (pieces split others : Pieces) → IsSplit pieces split
     → AreRising split.breaks.entries
     → AllByRecursion (λ (move : Move). HasBounds split move.range) moves
-    → others.front ≡ split.front
+    → others.lowest ≡ split.lowest
     → others.breaks.entries ≡ with_fresh split.breaks.entries (fresh_of version moves split.breaks.entries)
     → (x : Point) (v : ℕ) → owner_in (history_at others x) v
     ≡ (if nat_le version v then target_after moves x (owner_in (history_at pieces x) v)

@@ -4,7 +4,7 @@ use Rattle.std.proofs.Common.{◌==◌, nat_lt, nat_le, List, [], ◌∷◌, ⊎
 use Rattle.std.specs.List.{AllByRecursion, list_any}
 use Rattle.std.proofs.lemmas.Bool.{cases_lt, and_parts, and_from, cond-true, cond-false, ltb-true, leb-true, lt-ltb}
 use Rattle.std.proofs.lemmas.Bool.{le-leb, lt-leb, false_from_ne_true}
-use Rattle.fdb_txn.proofs.Exports.{all-weaken}
+use Rattle.fdb_keys.proofs.Exports.{all-weaken}
 use Rattle.fdb_owners.specs.declared.history.Change.{Change}
 use Rattle.fdb_owners.specs.declared.history.History.{History}
 use Rattle.fdb_owners.specs.Histories.{AreFalling, owner_by, owner_in, any_between}

@@ -1,7 +1,6 @@
 -- What owners say, by the pieces inside them.
 use Rattle.std.proofs.Common.{◌≡◌, ◌∙◌, sym, ap, subst, refl, ℕ, suc, ◌+◌, ◌<◌, ◌≤◌, Bool, ◌&&◌, ◌==◌, nat_le, List}
-use Rattle.std.proofs.Common.{length}
-use Rattle.std.proofs.Common.{[], ◌∷◌, max, true, Option, Some, None, Result, Ok, IfOk, if◌then◌else◌, arith}
+use Rattle.std.proofs.Common.{length, [], ◌∷◌, max, true, Option, Some, None, Result, Ok, IfOk, if◌then◌else◌, arith}
 use Rattle.std.specs.List.{AllByRecursion}
 use Rattle.std.proofs.lemmas.Bool.{cond-true, cond-false, le-leb, lt-leb, eq-eqb}
 use Rattle.std.proofs.lemmas.Result.{IfOk-weaker}
@@ -19,7 +18,8 @@ use Rattle.fdb_owners.specs.declared.history.Change.{Change}
 use Rattle.fdb_owners.specs.declared.history.History.{History}
 use Rattle.fdb_owners.specs.declared.parts.Owned.{Owned}
 use Rattle.fdb_owners.specs.declared.pieces.Pieces.{Pieces}
-use Rattle.fdb_owners.specs.Histories.{owner_in, AreUpTo, IsHistory, changes_at, count_between, any_between}
+use Rattle.fdb_txn.specs.Versions.{count_between}
+use Rattle.fdb_owners.specs.Histories.{owner_in, AreUpTo, IsHistory, changes_at, any_between}
 use Rattle.fdb_owners.specs.Ownership.{Ownership, owner_at, resolvers_of, owned_between, changes_of, target_after}
 use Rattle.fdb_owners.specs.Ownership.{owners_fault, learn_fault, IsNew, HasLearnt, HasExpired}
 use Rattle.fdb_owners.specs.Parts.{ArePartsOf, owned_from}
@@ -37,13 +37,13 @@ use Rattle.fdb_interval.proofs.Exports.{all_imply}
 -- what owners with these pieces inside say
 abbrev pub seen_as : List Point → Pieces → ℕ → ℕ → Ownership
 seen_as splits pieces last floor =
-    record { splits = splits; front = pieces.front; breaks = joined pieces; last = last; floor = floor }
+    record { splits = splits; lowest = pieces.lowest; breaks = joined pieces; last = last; floor = floor }
 
 -- ---- one history
 pub history-is : (resolvers last : ℕ) (pieces : Pieces) → IsPieces resolvers last pieces → (x : Point)
     → IsHistory resolvers last (history_at pieces x)
 history-is resolvers last pieces are x =
-    value-holds (IsHistory resolvers last) pieces.front pieces.breaks.entries x are.front
+    value-holds (IsHistory resolvers last) pieces.lowest pieces.breaks.entries x are.lowest
     (all_imply _ (λ piece. IsHistory resolvers last piece.1) (λ piece holds. holds.1) pieces.breaks.entries are.breaks)
 
 known-through : (resolvers last : ℕ) (changes : List Change)
@@ -83,7 +83,7 @@ seen-is : (splits : List Point) (pieces : Pieces) (last floor : ℕ) → AreRisi
     → (x : Point) (v : ℕ)
     → owner_at (seen_as splits pieces last floor) x v ≡ owner_in (history_at pieces x) v
 seen-is splits pieces last floor rising x v =
-    ap (λ (history : History). owner_in history v) (value-joined pieces.front pieces.breaks.entries x rising)
+    ap (λ (history : History). owner_in history v) (value-joined pieces.lowest pieces.breaks.entries x rising)
 
 module _ (splits : List Point) (pieces : Pieces) (last floor : ℕ) (are : IsPieces (suc (length splits)) last pieces)
     (rising : AreRising pieces.breaks.entries) where
@@ -133,7 +133,7 @@ module _ (splits : List Point) (pieces : Pieces) (last floor : ℕ) (are : IsPie
       subst (λ (owners : Ownership). result ≡ changes_of owners key) seen
       (says last (through-last (suc (length splits)) last history kept)
       ∙ ap (λ (one : History). count_between (changes_at (owner_in one)) floor last)
-      (is ∙ sym (value-joined pieces.front pieces.breaks.entries key rising)))
+      (is ∙ sym (value-joined pieces.lowest pieces.breaks.entries key rising)))
 
   pub writers-answers : (self : Ownership) → seen_as splits pieces last floor ≡ self → (range : Range)
       (result : Result (List Owned) Refusal)
@@ -161,7 +161,7 @@ module _ (splits : List Point) (pieces : Pieces) (last floor : ℕ) (are : IsPie
       ∙ sym (between-owned_from (history_at pieces x) i from version
       (history-is (suc (length splits)) last pieces are x).falling order)
       ∙ ap (λ (one : History). any_between (λ v. owner_in one v == i) from version)
-      (sym (value-joined pieces.front pieces.breaks.entries x rising))
+      (sym (value-joined pieces.lowest pieces.breaks.entries x rising))
 
   pub readers-answers : (self : Ownership) → seen_as splits pieces last floor ≡ self → (range : Range)
       (from since version : ℕ) → since ≡ suc from → from < version → (result : Result (List Owned) Refusal)

@@ -1,5 +1,5 @@
 -- Parts to which the points of a range come.
-use Rattle.std.proofs.Common.{◌≡◌, ◌∙◌, sym, ap, refl, subst, ℕ, zero, suc, ◌<◌, ◌≤◌, Bool, true, false, ◌&&◌, ◌||◌}
+use Rattle.std.proofs.Common.{◌≡◌, ◌∙◌, sym, ap, refl, subst, ℕ, ◌<◌, ◌≤◌, Bool, true, false, ◌&&◌, ◌||◌}
 use Rattle.std.proofs.Common.{◌==◌, nat_lt, List, [], ◌∷◌, length, get_or, set, ⊎_elim, arith}
 use Rattle.std.specs.List.{AllByRecursion, insert, list_any, prefix_len}
 use Rattle.std.specs.List.Sorted.{IsPartitionedBy}
@@ -8,32 +8,25 @@ use Rattle.std.proofs.lemmas.Bool.{eq-eqb, both_ways, or_cases, or_left, or_righ
 use Rattle.fdb_keys.specs.Insertion.{with_range}
 use Rattle.fdb_keys.specs.Points.{Point, point_lt}
 use Rattle.fdb_keys.specs.Ranges.{Range, in_range, in_set}
-use Rattle.fdb_keys.proofs.Exports.{in_with_range, lt-itself, le_lt_chain, in_range_parts, in_range_from}
+use Rattle.fdb_keys.proofs.Exports.{all-weaken, in_range_from, in_range_parts, in_with_range, le_lt_chain, lt-itself}
+use Rattle.fdb_keys.proofs.Exports.{all-filter, ordered-parted}
 use Rattle.fdb_txn.specs.rules.Admission.{has_points}
-use Rattle.fdb_txn.proofs.Exports.{all-weaken}
 use Rattle.fdb_owners.specs.declared.history.Change.{Change}
 use Rattle.fdb_owners.specs.declared.history.History.{History}
 use Rattle.fdb_owners.specs.declared.parts.Owned.{Owned}
 use Rattle.fdb_owners.specs.Histories.{owner_in}
-use Rattle.fdb_owners.specs.Parts.{ranges_of, AreRising, ArePartsOf, owned_from, changes_within}
+use Rattle.fdb_owners.specs.Parts.{ranges_at, AreRising, ArePartsOf, owned_from, changes_within}
 use Rattle.fdb_owners.specs.Parts.{with_part, with_changes, with_owners}
-use Rattle.fdb_owners.proofs.ChangesLemmas.{all-at, all-filter, counts-first, counts-none, owner-below, any-within}
+use Rattle.fdb_owners.proofs.ChangesLemmas.{counts-first, counts-none, owner-below, any-within}
 
 -- ---- where the part of a resolver stands
 abbrev pub below : ℕ → Owned → Bool
 below i part = nat_lt part.resolver i
 
 pub rising-parted : (i : ℕ) (parts : List Owned) → AreRising parts → IsPartitionedBy (below i) parts
-rising-parted i [] rising j k d low within before = absurd (omega (arith, within))
-rising-parted i (part ∷ parts) rising zero zero d low within before = before
-rising-parted i (part ∷ parts) rising zero (suc k) d low within before =
-    let later : part.resolver < (get_or parts k d).resolver =
-    all-at (λ (later : Owned). part.resolver < later.resolver) parts rising.0 k d (omega (arith, within)) in
-    let sooner = ltb-true (get_or parts k d).resolver i before in
-    lt-ltb part.resolver i (omega (arith, later, sooner))
-rising-parted i (part ∷ parts) rising (suc j) zero d low within before = absurd (omega (arith, low))
-rising-parted i (part ∷ parts) rising (suc j) (suc k) d low within before =
-    rising-parted i parts rising.1 j k d (omega (arith, low)) (omega (arith, within)) before
+rising-parted i = ordered-parted (λ (part later : Owned). part.resolver < later.resolver) (below i)
+    (λ part later rises before.
+    let sooner = ltb-true later.resolver i before in lt-ltb part.resolver i (omega (arith, rises, sooner)))
 
 -- the part with the range's points too, and one of these alone
 abbrev pub grown : ℕ → Range → Owned → Owned
@@ -218,14 +211,14 @@ and-met : (a b : Bool) → b ≡ true → (a && b) ≡ a
 and-met true b met = met
 and-met false b met = refl
 
-ranges_of-none : (j : ℕ) (parts : List Owned) → AllByRecursion (λ (part : Owned). j < part.resolver) parts
-    → ranges_of parts j ≡ []
-ranges_of-none j [] later = refl
-ranges_of-none j (part ∷ parts) later =
-    cond-false (part.resolver == j) part.ranges (ranges_of parts j)
+ranges_at-none : (j : ℕ) (parts : List Owned) → AllByRecursion (λ (part : Owned). j < part.resolver) parts
+    → ranges_at parts j ≡ []
+ranges_at-none j [] later = refl
+ranges_at-none j (part ∷ parts) later =
+    cond-false (part.resolver == j) part.ranges (ranges_at parts j)
     (false_from_ne_true _ (λ equal. let same = eqb-true part.resolver j equal in
     let after = later.0 in absurd (omega (arith, same, after))))
-    ∙ ranges_of-none j parts later.1
+    ∙ ranges_at-none j parts later.1
 
 -- the set that grew has the points of both
 grown-points : (range : Range) (ranges : List Range) (same : Bool) (x : Point) → same ≡ true
@@ -238,63 +231,63 @@ grown-points range ranges same x is =
 module _ (i j : ℕ) (range : Range) (x : Point) where
   -- what resolver j has after the range came to resolver i
   abbrev more : List Owned → Bool
-  more parts = in_set (ranges_of parts j) x || (in_range range x && (i == j))
+  more parts = in_set (ranges_at parts j) x || (in_range range x && (i == j))
 
   points-low : (part : Owned) (parts grown_parts : List Owned) → part.resolver < i
-      → in_set (ranges_of grown_parts j) x ≡ more parts
-      → in_set (ranges_of (part ∷ grown_parts) j) x ≡ more (part ∷ parts)
+      → in_set (ranges_at grown_parts j) x ≡ more parts
+      → in_set (ranges_at (part ∷ grown_parts) j) x ≡ more (part ∷ parts)
   points-low part parts grown_parts low others = ⊎_elim
       (λ (here : (part.resolver == j) ≡ true).
       let apart : (i == j) ≡ false = false_from_ne_true _ (λ equal. let same = eqb-true i j equal in
       let is = eqb-true part.resolver j here in absurd (omega (arith, low, same, is))) in
-      ap (λ (l : List Range). in_set l x) (cond-true (part.resolver == j) part.ranges (ranges_of grown_parts j) here)
+      ap (λ (l : List Range). in_set l x) (cond-true (part.resolver == j) part.ranges (ranges_at grown_parts j) here)
       ∙ or-unmet (in_set part.ranges x) (i == j) (in_range range x) apart
       ∙ ap (λ (l : List Range). in_set l x || (in_range range x && (i == j)))
-      (sym (cond-true (part.resolver == j) part.ranges (ranges_of parts j) here)))
+      (sym (cond-true (part.resolver == j) part.ranges (ranges_at parts j) here)))
       (λ (there : (part.resolver == j) ≡ false).
-      ap (λ (l : List Range). in_set l x) (cond-false (part.resolver == j) part.ranges (ranges_of grown_parts j) there)
+      ap (λ (l : List Range). in_set l x) (cond-false (part.resolver == j) part.ranges (ranges_at grown_parts j) there)
       ∙ others
       ∙ ap (λ (l : List Range). in_set l x || (in_range range x && (i == j)))
-      (sym (cond-false (part.resolver == j) part.ranges (ranges_of parts j) there)))
+      (sym (cond-false (part.resolver == j) part.ranges (ranges_at parts j) there)))
       (cases_Bool (part.resolver == j))
 
   points-same : (part : Owned) (parts : List Owned) → part.resolver ≡ i
-      → in_set (ranges_of (grown i range part ∷ parts) j) x ≡ more (part ∷ parts)
+      → in_set (ranges_at (grown i range part ∷ parts) j) x ≡ more (part ∷ parts)
   points-same part parts same = ⊎_elim
       (λ (here : (i == j) ≡ true).
-      ap (λ (l : List Range). in_set l x) (cond-true (i == j) (with_range range part.ranges) (ranges_of parts j) here)
+      ap (λ (l : List Range). in_set l x) (cond-true (i == j) (with_range range part.ranges) (ranges_at parts j) here)
       ∙ grown-points range part.ranges (i == j) x here
       ∙ ap (λ (l : List Range). in_set l x || (in_range range x && (i == j)))
-      (sym (cond-true (part.resolver == j) part.ranges (ranges_of parts j)
+      (sym (cond-true (part.resolver == j) part.ranges (ranges_at parts j)
       (ap (λ (n : ℕ). n == j) same ∙ here))))
       (λ (there : (i == j) ≡ false).
-      ap (λ (l : List Range). in_set l x) (cond-false (i == j) (with_range range part.ranges) (ranges_of parts j) there)
-      ∙ or-unmet (in_set (ranges_of parts j) x) (i == j) (in_range range x) there
+      ap (λ (l : List Range). in_set l x) (cond-false (i == j) (with_range range part.ranges) (ranges_at parts j) there)
+      ∙ or-unmet (in_set (ranges_at parts j) x) (i == j) (in_range range x) there
       ∙ ap (λ (l : List Range). in_set l x || (in_range range x && (i == j)))
-      (sym (cond-false (part.resolver == j) part.ranges (ranges_of parts j)
+      (sym (cond-false (part.resolver == j) part.ranges (ranges_at parts j)
       (ap (λ (n : ℕ). n == j) same ∙ there))))
       (cases_Bool (i == j))
 
   points-fresh : (parts : List Owned) → AllByRecursion (λ (part : Owned). i < part.resolver) parts
-      → in_set (ranges_of (fresh i range ∷ parts) j) x ≡ more parts
+      → in_set (ranges_at (fresh i range ∷ parts) j) x ≡ more parts
   points-fresh parts later = ⊎_elim
       (λ (here : (i == j) ≡ true).
-      let none : ranges_of parts j ≡ [] =
-      subst (λ (n : ℕ). ranges_of parts n ≡ []) (eqb-true i j here) (ranges_of-none i parts later) in
-      ap (λ (l : List Range). in_set l x) (cond-true (i == j) (with_range range []) (ranges_of parts j) here)
+      let none : ranges_at parts j ≡ [] =
+      subst (λ (n : ℕ). ranges_at parts n ≡ []) (eqb-true i j here) (ranges_at-none i parts later) in
+      ap (λ (l : List Range). in_set l x) (cond-true (i == j) (with_range range []) (ranges_at parts j) here)
       ∙ grown-points range [] (i == j) x here
       ∙ ap (λ (l : List Range). in_set l x || (in_range range x && (i == j))) (sym none))
       (λ (there : (i == j) ≡ false).
-      ap (λ (l : List Range). in_set l x) (cond-false (i == j) (with_range range []) (ranges_of parts j) there)
-      ∙ or-unmet (in_set (ranges_of parts j) x) (i == j) (in_range range x) there)
+      ap (λ (l : List Range). in_set l x) (cond-false (i == j) (with_range range []) (ranges_at parts j) there)
+      ∙ or-unmet (in_set (ranges_at parts j) x) (i == j) (in_range range x) there)
       (cases_Bool (i == j))
 
   points-with_part : (parts : List Owned) → AreRising parts
-      → in_set (ranges_of (with_part i range parts) j) x ≡ more parts
+      → in_set (ranges_at (with_part i range parts) j) x ≡ more parts
   points-with_part [] rising = points-fresh [] tt
   points-with_part (part ∷ parts) rising =
       let others = points-with_part parts rising.1 in
-      placed (λ (l : List Owned). in_set (ranges_of l j) x ≡ more (part ∷ parts)) i range part parts
+      placed (λ (l : List Owned). in_set (ranges_at l j) x ≡ more (part ∷ parts)) i range part parts
       (λ low. points-low part parts (with_part i range parts) low others)
       (λ same. points-same part parts same)
       (λ high. points-fresh (part ∷ parts) (

@@ -78,6 +78,6 @@ module _ (set : List Range) (first last : Range) (apart : is_apart set ≡ true)
       → breaks_inside (record { begin = first.begin; end = last.end }) pieces.breaks.entries ≡ []
       → (x : Point) → in_set set x ≡ true → history_at pieces x ≡ history_at pieces first.begin
   sole-history pieces rising none x inside =
-      value-inside pieces.front pieces.breaks.entries first.begin last.end rising sole-order x
+      value-inside pieces.lowest pieces.breaks.entries first.begin last.end rising sole-order x
       (from-first set first x apart begins inside) (until-last set last x apart ends inside)
       ∙ ap (λ (within : Breaks History). value_from (history_at pieces first.begin) within x) none

@@ -181,15 +181,16 @@ value-holds {V} P before (e ∷ es) x first all =
     either false = all.0
 
 -- ---- pieces split at a point
-pub split-same : (pieces others : Pieces) → others.front ≡ pieces.front → others.breaks.entries ≡ pieces.breaks.entries
+pub split-same : (pieces others : Pieces) → others.lowest ≡ pieces.lowest
+    → others.breaks.entries ≡ pieces.breaks.entries
     → IsSplit pieces others
 split-same pieces others front entries = record {
-  front_same = front;
+  lowest_same = front;
   histories = λ x i. value_from (front i) (entries i) x;
   joined_same = λ i. joined_after (front i) (entries i);
   breaks = λ x found. ap (λ (es : Breaks History). is_some (lookup (is_at (slice_cmp nat_cmp x)) es)) entries ∙ found;
   kept = λ resolvers last are. record {
-    front = subst (IsHistory resolvers last) (sym front) are.front;
+    lowest = subst (IsHistory resolvers last) (sym front) are.lowest;
     breaks = subst (AllByRecursion (λ (piece : Point × History).
         (is_bound piece.0 ≡ true) × IsHistory resolvers last piece.1)) (sym entries) are.breaks;
   };
@@ -198,7 +199,7 @@ split-same pieces others front entries = record {
 
 pub split-more : (pieces others more : Pieces) → IsSplit pieces others → IsSplit others more → IsSplit pieces more
 split-more pieces others more first second = record {
-  front_same = second.front_same ∙ first.front_same;
+  lowest_same = second.lowest_same ∙ first.lowest_same;
   histories = λ x. second.histories x ∙ first.histories x;
   joined_same = second.joined_same ∙ first.joined_same;
   breaks = λ x found. second.breaks x (first.breaks x found);
@@ -207,23 +208,23 @@ split-more pieces others more first second = record {
 }
 
 pub split-put : (pieces others : Pieces) (x : Point) → is_bound x ≡ true → AreRising pieces.breaks.entries
-    → others.front ≡ pieces.front
+    → others.lowest ≡ pieces.lowest
     → others.breaks.entries ≡ put x (history_at pieces x) pieces.breaks.entries → IsSplit pieces others
 split-put pieces others x bound rising front entries = record {
-  front_same = front;
+  lowest_same = front;
   histories = λ y. (λ i. value_from (front i) (entries i) y)
-      ∙ value-split pieces.front x pieces.breaks.entries rising y;
-  joined_same = (λ i. joined_after (front i) (entries i)) ∙ joined-split pieces.front x pieces.breaks.entries rising;
+      ∙ value-split pieces.lowest x pieces.breaks.entries rising y;
+  joined_same = (λ i. joined_after (front i) (entries i)) ∙ joined-split pieces.lowest x pieces.breaks.entries rising;
   breaks = λ y found. ap (λ (es : Breaks History). is_some (lookup (is_at (slice_cmp nat_cmp y)) es)) entries
       ∙ found-kept x (history_at pieces x) y pieces.breaks.entries found;
   kept = λ resolvers last are. record {
-    front = subst (IsHistory resolvers last) (sym front) are.front;
+    lowest = subst (IsHistory resolvers last) (sym front) are.lowest;
     breaks = subst (AllByRecursion (λ (piece : Point × History).
         (is_bound piece.0 ≡ true) × IsHistory resolvers last piece.1)) (sym entries)
         (all-put (λ piece. (is_bound piece.0 ≡ true) × IsHistory resolvers last piece.1) x (history_at pieces x)
         pieces.breaks.entries (
           bound,
-          value-holds (IsHistory resolvers last) pieces.front pieces.breaks.entries x are.front
+          value-holds (IsHistory resolvers last) pieces.lowest pieces.breaks.entries x are.lowest
               (all_imply (λ piece. (is_bound piece.0 ≡ true) × IsHistory resolvers last piece.1)
               (λ piece. IsHistory resolvers last piece.1) (λ piece holds. holds.1) pieces.breaks.entries are.breaks),
         )
@@ -234,7 +235,7 @@ split-put pieces others x bound rising front entries = record {
 
 -- ---- the same by what a call answers
 pub split-answers : {E : Type 0} (result : Result (Unit {0}) E) (pieces others : Pieces) (x begin : Point)
-    (history : History) → is_bound x ≡ true → begin ≡ x → history ≡ history_at pieces x → others.front ≡ pieces.front
+    (history : History) → is_bound x ≡ true → begin ≡ x → history ≡ history_at pieces x → others.lowest ≡ pieces.lowest
     → AreRising pieces.breaks.entries → OnOk result (others.breaks.entries ≡ put begin history pieces.breaks.entries)
     → OnErr result (others.breaks.entries ≡ pieces.breaks.entries) → IsSplit pieces others
 split-answers (Ok done) pieces others x begin history bound is_begin is_history front rising ok err =

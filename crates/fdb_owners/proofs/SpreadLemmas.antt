@@ -8,10 +8,10 @@ use Rattle.std.proofs.lemmas.List.Folds.{list_any-append}
 use Rattle.std.proofs.Math.Bool.{and-true, or-false}
 use Rattle.fdb_keys.specs.Points.{Point}
 use Rattle.fdb_keys.specs.Ranges.{Range, in_range, in_set}
+use Rattle.fdb_keys.proofs.Exports.{all-weaken}
 use Rattle.fdb_txn.specs.rules.Admission.{has_points}
-use Rattle.fdb_txn.proofs.Exports.{all-weaken}
 use Rattle.fdb_owners.specs.declared.parts.Owned.{Owned}
-use Rattle.fdb_owners.specs.Parts.{ranges_of, AreRising, ArePartsOf}
+use Rattle.fdb_owners.specs.Parts.{ranges_at, AreRising, ArePartsOf}
 use Rattle.fdb_owners.specs.Spreads.{is_held, AreOwned}
 
 -- of parts of resolvers with greater numbers resolver i holds none
@@ -25,7 +25,7 @@ none-held (part ∷ parts) i x above =
 
 -- of parts of different resolvers the points that resolver i holds are those of its one part
 held-alone : (parts : List Owned) (i : ℕ) (x : Point) → AreRising parts
-    → is_held parts i x ≡ in_set (ranges_of parts i) x
+    → is_held parts i x ≡ in_set (ranges_at parts i) x
 held-alone [] i x rising = refl
 held-alone (part ∷ parts) i x rising = ⊎_elim
     (λ (same : (part.resolver == i) ≡ true).
@@ -34,12 +34,12 @@ held-alone (part ∷ parts) i x rising = ⊎_elim
     all-weaken _ _ (λ (later : Owned) above. omega (arith, equal, above)) parts rising.0))
     ∙ or-false (in_set part.ranges x)
     ∙ ap (λ (ranges : List Range). in_set ranges x)
-    (sym (cond-true (part.resolver == i) part.ranges (ranges_of parts i) same)))
+    (sym (cond-true (part.resolver == i) part.ranges (ranges_at parts i) same)))
     (λ (other : (part.resolver == i) ≡ false).
     ap (λ (it : Bool). it && in_set part.ranges x || is_held parts i x) other
     ∙ held-alone parts i x rising.1
     ∙ ap (λ (ranges : List Range). in_set ranges x)
-    (sym (cond-false (part.resolver == i) part.ranges (ranges_of parts i) other)))
+    (sym (cond-false (part.resolver == i) part.ranges (ranges_at parts i) other)))
     (cases_Bool (part.resolver == i))
 
 -- one range more is spread, which was the first of those that were left

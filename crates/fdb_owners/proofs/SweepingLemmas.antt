@@ -179,13 +179,13 @@ falling-all resolvers last (e ∷ es) all = (all.0.1.falling, falling-all resolv
 
 pub falling-at : (pieces : Pieces) → HaveHistories pieces → (x : Point) → AreFalling (history_at pieces x).changes
 falling-at pieces has x =
-    value-holds (λ history. AreFalling history.changes) pieces.front pieces.breaks.entries x has.2.front.falling
+    value-holds (λ history. AreFalling history.changes) pieces.lowest pieces.breaks.entries x has.2.lowest.falling
     (falling-all has.0 has.1 pieces.breaks.entries has.2.breaks)
 
 pub falling-before : (pieces : Pieces) → HaveHistories pieces → (x : Point)
-    → AreFalling (last_value pieces.front (breaks_before x pieces.breaks.entries)).changes
+    → AreFalling (last_value pieces.lowest (breaks_before x pieces.breaks.entries)).changes
 falling-before pieces has x =
-    last-holds (λ history. AreFalling history.changes) pieces.front _ pieces.breaks.entries has.2.front.falling
+    last-holds (λ history. AreFalling history.changes) pieces.lowest _ pieces.breaks.entries has.2.lowest.falling
     (falling-all has.0 has.1 pieces.breaks.entries has.2.breaks)
 
 -- ---- pieces with the breakpoint at a point changed

@@ -7,7 +7,7 @@ use Rattle.fdb_keys.specs.Points.{Point, point_lt}
 use Rattle.fdb_keys.specs.Ranges.{Range, in_range}
 use Rattle.fdb_keys.specs.Texts.{is_bound}
 use Rattle.fdb_keys.proofs.Exports.{lt-itself, lt_one_way, lt_chain, lt_le_chain, in_range_parts}
-use Rattle.fdb_txn.proofs.Exports.{all-append, all-weaken}
+use Rattle.fdb_keys.proofs.Exports.{all-append, all-weaken}
 use Rattle.fdb_interval.specs.Breakpoints.{Breaks, value_from, last_value, breaks_inside, AreRising as Rise}
 use Rattle.fdb_interval.proofs.Exports.{sift, before, at, inside, inside-is, beyond, five_parts, all-sift, all_kept}
 use Rattle.fdb_interval.proofs.Exports.{rising-sift, value-append, value-after, value-reached, at_same}
@@ -138,7 +138,7 @@ known-pieces n last pieces are =
 pub falling-history_at : (n last : ℕ) (pieces : Pieces) (x : Point) → IsPieces n last pieces
     → AreFalling (history_at pieces x).changes
 falling-history_at n last pieces x are =
-    falling-at pieces.front pieces.breaks.entries x are.front.falling (known-pieces n last pieces are)
+    falling-at pieces.lowest pieces.breaks.entries x are.lowest.falling (known-pieces n last pieces are)
 
 pub way-inside : (n last : ℕ) (pieces : Pieces) (range : Range) → IsPieces n last pieces
     → Rise pieces.breaks.entries → is_bound range.begin ≡ true → is_bound range.end ≡ true
@@ -252,13 +252,13 @@ parts-walked n last since through pieces range held old new known rising of_begi
     (parts-alike n _ _ (with_pieces (history_at pieces range.begin) since through range.begin within range.end old)
     (parts-with_pieces n (history_at pieces range.begin) since through range.begin within range.end held old
     (way-inside n last pieces range known rising of_begin of_end some)
-    (owners_below-at n pieces.front entries range.begin (owners_below n last pieces.front known.front) low)
+    (owners_below-at n pieces.lowest entries range.begin (owners_below n last pieces.lowest known.lowest) low)
     (all_kept (inside range.begin range.end) (λ (piece : Point × History). HasOwnersBelow n piece.1) entries low) are)
     (λ j x. ap (λ (b : Bool). held j x || b) (⊎_elim
     (λ (lies : in_range range x ≡ true).
     let parts : (point_lt x range.begin ≡ false) × (point_lt x range.end ≡ true) = in_range_parts range x lies in
     ap (λ (history : History). in_range range x && owned_from history j since through)
-    (sym (value-inside pieces.front entries range.begin range.end rising some x parts.0 parts.1)))
+    (sym (value-inside pieces.lowest entries range.begin range.end rising some x parts.0 parts.1)))
     (λ (out : in_range range x ≡ false).
     ap (λ (b : Bool). b && owned_from (value_from (history_at pieces range.begin) within x) j since through) out
     ∙ ap (λ (b : Bool). b && owned_from (history_at pieces x) j since through) (sym out))

@@ -12,7 +12,7 @@ change version owner = record { version = version; owner = owner }
 abbrev pub split_at_m : ℕ → List Change → Ownership
 split_at_m floor changes = record {
   splits = codes "m" ∷ [];
-  front = record { first = 0; changes = [] };
+  lowest = record { first = 0; changes = [] };
   breaks = (codes "m", record { first = 1; changes = changes })
       ∷ (codes "t", record { first = 1; changes = [] }) ∷ [];
   last = 300;

@@ -1,8 +1,9 @@
 -- Who owned the keys of a piece when.
-use Rattle.std.specs.Prelude.{◌<◌, ◌≤◌, ⊤, ℕ, zero, suc, Bool, true, false, ◌+◌, ◌&&◌, ◌||◌, ◌==◌, not, nat_le, List}
-use Rattle.std.specs.Prelude.{[], ◌∷◌}
-use Rattle.std.specs.Prelude.{if◌then◌else◌}
+use Rattle.std.specs.Prelude.{◌<◌, ◌≤◌, ℕ, zero, suc, Bool, true, false, ◌+◌, ◌&&◌, ◌||◌, ◌==◌, nat_le, List}
+use Rattle.std.specs.Prelude.{[], ◌∷◌, if◌then◌else◌}
 use Rattle.std.specs.List.{AllByRecursion}
+use Rattle.fdb_keys.specs.Ordered.{AreOrdered}
+use Rattle.fdb_txn.specs.Versions.{changes_by}
 use Rattle.fdb_owners.specs.declared.history.Change.{Change}
 use Rattle.fdb_owners.specs.declared.history.History.{History}
 
@@ -16,9 +17,7 @@ owner_in history v = owner_by history.first history.changes v
 
 -- each change is of a version above those after it
 abbrev pub AreFalling : List Change → Type 0
-AreFalling [] = ⊤
-AreFalling (change ∷ older) = AllByRecursion (λ (earlier : Change). earlier.version < change.version) older
-    × AreFalling older
+AreFalling changes = AreOrdered (λ (change earlier : Change). earlier.version < change.version) changes
 
 -- each change is of a version above this one
 abbrev pub AreAbove : ℕ → List Change → Type 0
@@ -47,18 +46,12 @@ pub record IsHistory (resolvers last : ℕ) (history : History) : Type 0 where
 
 -- whether an owner isn't the one at the version before
 abbrev pub changes_at : (ℕ → ℕ) → ℕ → Bool
-changes_at owner_of zero = false
-changes_at owner_of (suc v) = not (owner_of (suc v) == owner_of v)
+changes_at = changes_by (λ (owner other : ℕ). owner == other)
 
 -- whether some version above low and at most high passes the test
 abbrev pub any_between : (ℕ → Bool) → ℕ → ℕ → Bool
 any_between test low zero = false
 any_between test low (suc v) = (nat_le low v && test (suc v)) || any_between test low v
-
--- how many of the versions above low and at most high pass the test
-abbrev pub count_between : (ℕ → Bool) → ℕ → ℕ → ℕ
-count_between test low zero = 0
-count_between test low (suc v) = count_between test low v + (if nat_le low v && test (suc v) then 1 else 0)
 
 abbrev pub same_changes : List Change → List Change → Bool
 same_changes [] [] = true

@@ -16,7 +16,7 @@ use Rattle.fdb_owners.specs.Pieces.{history_at, has_break, joined, IsPieces}
 
 -- The others have breakpoints more, at which nothing changes.
 pub record IsSplit (pieces others : Pieces) : Type 0 where
-  pub front_same : others.front ≡ pieces.front
+  pub lowest_same : others.lowest ≡ pieces.lowest
   pub histories : (x : Point) → history_at others x ≡ history_at pieces x
   pub joined_same : joined others ≡ joined pieces
   pub breaks : (x : Point) → has_break pieces x ≡ true → has_break others x ≡ true

@@ -11,13 +11,14 @@ use Rattle.fdb_txn.specs.rules.Splits.{are_splits}
 use Rattle.fdb_txn.specs.Limits.{resolver_limit}
 use Rattle.fdb_interval.specs.Breakpoints.{Breaks, value_from}
 use Rattle.fdb_owners.specs.declared.history.History.{History}
-use Rattle.fdb_owners.specs.Histories.{owner_in, changes_at, any_between, count_between}
+use Rattle.fdb_txn.specs.Versions.{count_between}
+use Rattle.fdb_owners.specs.Histories.{owner_in, changes_at, any_between}
 
 -- the splits, the history of the keys before the first breakpoint, the breakpoints, each with the history of the keys
 -- from it up to the next one, the last version learnt, and the version from which on owners are known
 pub record Ownership : Type 0 where
   pub splits : List Point
-  pub front : History
+  pub lowest : History
   pub breaks : Breaks History
   pub last : ℕ
   pub floor : ℕ
@@ -25,11 +26,11 @@ pub record Ownership : Type 0 where
 -- one resolver owns all keys, and no move is learnt up to the last version
 abbrev pub one_owner : ℕ → Ownership
 one_owner last =
-    record { splits = []; front = record { first = 0; changes = [] }; breaks = []; last = last; floor = 0 }
+    record { splits = []; lowest = record { first = 0; changes = [] }; breaks = []; last = last; floor = 0 }
 
 -- the owner of a point at a version
 abbrev pub owner_at : Ownership → Point → ℕ → ℕ
-owner_at owners x v = owner_in (value_from owners.front owners.breaks x) v
+owner_at owners x v = owner_in (value_from owners.lowest owners.breaks x) v
 
 -- there is one more of them than there are splits
 abbrev pub resolvers_of : Ownership → ℕ

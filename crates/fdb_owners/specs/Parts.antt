@@ -1,7 +1,8 @@
 -- Parts of a range, each with its resolver.
-use Rattle.std.specs.Prelude.{◌≡◌, ◌<◌, ⊤, ℕ, Bool, true, ◌&&◌, ◌||◌, ◌==◌, nat_lt, nat_le, List, [], ◌∷◌}
+use Rattle.std.specs.Prelude.{◌≡◌, ◌<◌, ℕ, Bool, true, ◌&&◌, ◌||◌, ◌==◌, nat_lt, nat_le, List, [], ◌∷◌}
 use Rattle.std.specs.Prelude.{if◌then◌else◌}
 use Rattle.std.specs.List.{AllByRecursion, filter, fold, list_any}
+use Rattle.fdb_keys.specs.Ordered.{AreOrdered}
 use Rattle.fdb_keys.specs.Insertion.{with_range}
 use Rattle.fdb_keys.specs.Points.{Point, point_lt}
 use Rattle.fdb_keys.specs.Ranges.{Range, in_set}
@@ -14,21 +15,20 @@ use Rattle.fdb_owners.specs.declared.parts.Owned.{Owned}
 use Rattle.fdb_owners.specs.Histories.{AreFalling, owner_in}
 
 -- the ranges of the part of resolver i, none where it has no part
-abbrev pub ranges_of : List Owned → ℕ → List Range
-ranges_of [] i = []
-ranges_of (part ∷ parts) i = if part.resolver == i then part.ranges else ranges_of parts i
+abbrev pub ranges_at : List Owned → ℕ → List Range
+ranges_at [] i = []
+ranges_at (part ∷ parts) i = if part.resolver == i then part.ranges else ranges_at parts i
 
 -- each part is of a resolver with a greater number than those before it
 abbrev pub AreRising : List Owned → Type 0
-AreRising [] = ⊤
-AreRising (part ∷ parts) = AllByRecursion (λ (later : Owned). part.resolver < later.resolver) parts × AreRising parts
+AreRising parts = AreOrdered (λ (part later : Owned). part.resolver < later.resolver) parts
 
 -- The parts of so many resolvers: each has a point, and together they give each resolver the points that it holds.
 pub record ArePartsOf (resolvers : ℕ) (held : ℕ → Point → Bool) (parts : List Owned) : Type 0 where
   pub rising : AreRising parts
   pub within : AllByRecursion (λ (part : Owned). part.resolver < resolvers) parts
   pub some : AllByRecursion (λ (part : Owned). has_points part.ranges ≡ true) parts
-  pub points : (i : ℕ) (x : Point) → in_set (ranges_of parts i) x ≡ held i x
+  pub points : (i : ℕ) (x : Point) → in_set (ranges_at parts i) x ≡ held i x
 
 -- some points of a part may have come to a set, no others did, and none left it
 pub record HasSomeOf (part old new : List Range) : Type 0 where

@@ -14,7 +14,7 @@ use Rattle.fdb_owners.specs.Histories.{IsHistory, owner_in, same_history}
 
 -- the history of the point: that of the last breakpoint at or before it, of the front where there is none
 abbrev pub history_at : Pieces → Point → History
-history_at pieces x = value_from pieces.front pieces.breaks.entries x
+history_at pieces x = value_from pieces.lowest pieces.breaks.entries x
 
 -- whether there is a breakpoint at the point
 abbrev pub has_break : Pieces → Point → Bool
@@ -27,11 +27,11 @@ joined_after before (piece ∷ rest) =
     if same_history piece.1 before then joined_after before rest else piece ∷ joined_after piece.1 rest
 
 abbrev pub joined : Pieces → Breaks History
-joined pieces = joined_after pieces.front pieces.breaks.entries
+joined pieces = joined_after pieces.lowest pieces.breaks.entries
 
 -- each history is one of so many resolvers up to the last version, and each breakpoint may bound a range
 pub record IsPieces (resolvers last : ℕ) (pieces : Pieces) : Type 0 where
-  pub front : IsHistory resolvers last pieces.front
+  pub lowest : IsHistory resolvers last pieces.lowest
   pub breaks : AllByRecursion (λ (piece : Point × History). (is_bound piece.0 ≡ true)
       × IsHistory resolvers last piece.1)
       pieces.breaks.entries

@@ -22,7 +22,8 @@ pub(crate) struct History {
 impl History {
     ghost use Rattle.std.specs.Prelude.{◌≡◌, ◌≤◌, ◌<◌, ◌∷◌, ◌++◌, [], ℕ, IsTrue, nat_lt};
     ghost use Rattle.fdb_owners.specs.Histories.{AreFalling, AreAbove, AreUpTo, IsHistory, owner_in};
-    ghost use Rattle.fdb_owners.specs.Histories.{changes_at, count_between};
+    ghost use Rattle.fdb_txn.specs.Versions.{count_between};
+    ghost use Rattle.fdb_owners.specs.Histories.{changes_at};
 
     /// Nothing changed since the first owner.
     pub(crate) fn new(alloc: Global, first: u32) -> Self

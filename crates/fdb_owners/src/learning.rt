@@ -14,6 +14,7 @@ ghost use Rattle.fdb_owners.specs.Ownership.{target_after};
 ghost use Rattle.fdb_owners.specs.Pieces.{history_at, has_break, joined, IsPieces};
 
 use crate::history::{Change, History};
+use crate::knowing::{know_bounds, know_rising};
 use crate::pieces::Pieces;
 use bytes::Bytes;
 use fdb_keys::{Items, KeyRange};
@@ -37,7 +38,7 @@ pub(crate) fn learn_moves(
         else owner_in (history_at pieces.old x) v)) }
     ensures pieces { OnOk result ((resolvers last : ℕ) → IsPieces resolvers last pieces.old → last < version
         → AllByRecursion (λ move. move.to < resolvers) moves.now → IsPieces resolvers version pieces.new) }
-    ensures front { pieces.new.front ≡ pieces.old.front }
+    ensures lowest { pieces.new.lowest ≡ pieces.old.lowest }
     ensures rising { AreRising pieces.old.breaks.entries → AreRising pieces.new.breaks.entries }
     ensures touched { IfOk result (λ touched. touched ≡ touched_by moves.now pieces.new.breaks.entries) }
     ensures histories { OnErr result ((x : Point) → history_at pieces.new x ≡ history_at pieces.old x) }
@@ -67,8 +68,7 @@ fn split_bounds(alloc: Global, pieces: &mut Pieces, range: &KeyRange) -> Result<
     ensures split { IsSplit pieces.old pieces.new }
     ensures there { OnOk result (HasBounds pieces.new range.now) }
 {
-    // a range's bounds are legal
-    let _legal = range.begin();
+    know_bounds(range);
     split_at(alloc, pieces, range.begin_text())?;
     split_at(alloc, pieces, range.end_text())
 }
@@ -182,12 +182,11 @@ fn put_all(breaks: &mut BTreeMap<Bytes, History>, fresh: Items<(Bytes, History)>
     ensures rising { AreRising breaks.old.entries }
     ensures rising_after { AreRising breaks.new.entries }
 {
-    // the keys of a map rise
-    let _count = breaks.len();
+    know_rising(breaks);
     for (point, history) in fresh.into_vec() {
         put(breaks, &point, history);
     }
-    let _count_after = breaks.len();
+    know_rising(breaks);
 }
 
 fn put(breaks: &mut BTreeMap<Bytes, History>, point: &Bytes, history: History)

@@ -2,6 +2,7 @@
 #![tactic(auto)]
 
 mod history;
+mod knowing;
 pub mod laws;
 mod learning;
 mod owners;

@@ -46,7 +46,7 @@ impl Model for Owners {
 
     ghost view = { λ owners. record {
       splits = owners.splits;
-      front = owners.pieces.front;
+      lowest = owners.pieces.lowest;
       breaks = joined owners.pieces;
       last = owners.last;
       floor = owners.floor;

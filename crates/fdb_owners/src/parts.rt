@@ -16,6 +16,7 @@ ghost use Rattle.fdb_owners.specs.declared.history.Change.{Change};
 ghost use Rattle.fdb_owners.specs.declared.parts.Owned.{Owned};
 
 use crate::history::{Change, History, split_by};
+use crate::knowing::know_bounds;
 use crate::pieces::Pieces;
 use bytes::Bytes;
 use fdb_keys::{Items, KeyRange, RangeSet, Refusal};
@@ -206,8 +207,7 @@ fn history_throughout<'a>(pieces: &'a Pieces, range: &KeyRange) -> Option<&'a Hi
     ensures begin { IsTrue (is_bound range.now.begin) }
     ensures end { IsTrue (is_bound range.now.end) }
 {
-    // a range's bounds are legal
-    let _begin = range.begin();
+    know_bounds(range);
     pieces.history_between(range.begin_text(), range.end_text())
 }
 

@@ -18,7 +18,7 @@ use std::collections::BTreeMap;
 /// first.
 #[derive(Drop)]
 pub(crate) struct Pieces {
-    pub(crate) front: History,
+    pub(crate) lowest: History,
     pub(crate) breaks: BTreeMap<Bytes, History>,
 }
 
@@ -35,7 +35,7 @@ impl Pieces {
     {
         match self.breaks.range(..=point).next_back() {
             Some((_begin, history)) => history,
-            None => &self.front,
+            None => &self.lowest,
         }
     }
 
@@ -51,18 +51,18 @@ impl Pieces {
         match self.breaks.range(..end).next_back() {
             Some((point, _history)) if is_before(begin.as_slice(), point.as_slice()) => None,
             Some((_point, history)) => Some(history),
-            None => Some(&self.front),
+            None => Some(&self.lowest),
         }
     }
 
     /// The history right before the point, in O(log n) comparisons for n breakpoints.
     pub(crate) fn history_before(&self, point: &Bytes) -> &History
-        ensures value { result.now ≡ last_value self.now.front (breaks_before point.now self.now.breaks.entries) }
+        ensures value { result.now ≡ last_value self.now.lowest (breaks_before point.now self.now.breaks.entries) }
         ensures rising { AreRising self.now.breaks.entries }
     {
         match self.breaks.range(..point).next_back() {
             Some((_begin, history)) => history,
-            None => &self.front,
+            None => &self.lowest,
         }
     }
 }
@@ -82,7 +82,7 @@ pub(crate) fn first_pieces(alloc: Global, splits: &[Key]) -> Result<Pieces, Allo
         breaks.insert(split.text().clone()?, history)?;
     }
     Ok(Pieces {
-        front: History::new(alloc, 0),
+        lowest: History::new(alloc, 0),
         breaks,
     })
 }

@@ -15,7 +15,7 @@ use Rattle.fdb_proxy.specs.MessageLaws.{MessagesHoldTheCommitted}
 use Rattle.fdb_proxy.specs.Verdicts.{outcome_at, outcomes_from, moves_through, outcomes_on}
 
 -- a place's outcome is a commit just where the place is committed
-commit-at : (splits : List Point) (earlier : List Place) (place : Place) (p : ℕ)
+pub commit-at : (splits : List Point) (earlier : List Place) (place : Place) (p : ℕ)
     → is_commit (outcome_at splits earlier place p) ≡ committed splits earlier place
 commit-at splits earlier place p =
     by_cases (is_fresh place) (no_conflict splits (length splits) earlier place)

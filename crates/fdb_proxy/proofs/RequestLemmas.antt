@@ -6,7 +6,7 @@ use Rattle.std.proofs.Math.Seq.{take-append-add, take-append_seam}
 use Rattle.std.proofs.lemmas.List.{length-append, append-nil, append_cancel_left, nil_from_length, take_all, take_min}
 use Rattle.std.proofs.lemmas.List.{take-append-drop}
 use Rattle.fdb_proxy.specs.declared.requests.Requests.TheInside.{Inside}
-use Rattle.fdb_proxy.specs.RequestFields.{all_of, front_of, requests_of}
+use Rattle.fdb_proxy.specs.RequestFields.{all_of, places_of, requests_of}
 
 either_way : {X : Type 0} (is_in_flight : Bool) (front others : List X)
     → front ++ others
@@ -16,7 +16,7 @@ either_way false front others = refl
 
 -- the batch and those that wait are all, whichever of the two the front belongs to
 pub all_in_parts : (r : Inside) → all_of r ≡ (requests_of r).batch ++ (requests_of r).waiting
-all_in_parts r = either_way r.is_in_flight (front_of r.front) r.list.items
+all_in_parts r = either_way r.is_in_flight (places_of r.last_batch) r.list.items
 
 -- all of the first ones, and of the others as many as the limit leaves, are the first of all
 pub first_of_all : {X : Type 0} (limit : ℕ) (xs ys : List X) → length xs ≤ limit

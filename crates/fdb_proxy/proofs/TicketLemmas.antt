@@ -10,6 +10,7 @@ use Rattle.std.proofs.lemmas.Option.{slice_get_within, get_or_from_slice_get}
 use Rattle.fdb_keys.specs.Answers.{Answers, AnswersExactly}
 use Rattle.fdb_keys.specs.declared.refusal.Refusal.{Refusal}
 use Rattle.fdb_keys.specs.declared.refusal.Refusal.TheVariants.{Stale, Failed, WrongState}
+use Rattle.fdb_sequencer.specs.declared.dated.Dated.{Dated}
 use Rattle.fdb_sequencer.specs.declared.ticket.Ticket.{Ticket}
 use Rattle.fdb_sequencer.specs.TicketLaws.{AreRisingUpTo}
 use Rattle.fdb_txn.specs.declared.entry.Move.{Move}
@@ -19,28 +20,25 @@ use Rattle.fdb_owners.specs.OwnersLaws.{AgreesWith}
 use Rattle.fdb_owners.proofs.Exports.{learning_goes_on}
 use Rattle.fdb_proxy.specs.CommitProxies.{CommitProxy, is_sealed, is_stale, moves_with, learn_fault as ticket_fault}
 
-abbrev Dated : Type 0
-Dated = ℕ × List Move
-
 -- each of the moves is of a version above this one
 abbrev pub AreAbove : ℕ → List Dated → Type 0
-AreAbove version dated = AllByRecursion (λ (of : Dated). version < of.0) dated
+AreAbove version dated = AllByRecursion (λ (of : Dated). version < of.version) dated
 
 -- the moves at an index are of a version up to the greatest one, and the later ones are of greater versions
 pub rising-at : (version : ℕ) (dated : List Dated) (i : ℕ) (of : Dated) → AreRisingUpTo version dated
-    → slice_get dated i ≡ Some of → (of.0 ≤ version) × AreAbove of.0 (drop (suc i) dated)
+    → slice_get dated i ≡ Some of → (of.version ≤ version) × AreAbove of.version (drop (suc i) dated)
 rising-at version [] i of rising there = cc
 rising-at version (first ∷ dated) zero of rising there =
     let same : first ≡ of = cc in
-    subst (λ (one : Dated). (one.0 ≤ version) × AreAbove one.0 dated) same (rising.0, rising.1)
+    subst (λ (one : Dated). (one.version ≤ version) × AreAbove one.version dated) same (rising.0, rising.1)
 rising-at version (first ∷ dated) (suc i) of rising there = rising-at version dated i of rising.2 there
 
 -- so are those at an index of a list of which all are
 pub above-at : (version : ℕ) (dated : List Dated) (i : ℕ) (of : Dated) → AreAbove version (drop i dated)
-    → slice_get dated i ≡ Some of → version < of.0
+    → slice_get dated i ≡ Some of → version < of.version
 above-at version [] i of above there = cc
 above-at version (first ∷ dated) zero of above there =
-    let same : first ≡ of = cc in subst (λ (one : Dated). version < one.0) same above.0
+    let same : first ≡ of = cc in subst (λ (one : Dated). version < one.version) same above.0
 above-at version (first ∷ dated) (suc i) of above there = above-at version dated i of above there
 
 -- moves of a later version may be learnt
@@ -50,23 +48,23 @@ may-learn owners version above =
 
 -- the moves at an index come after those before it
 moves-next : (dated : List Dated) (i : ℕ) (of : Dated) (older : List Stamped) → slice_get dated i ≡ Some of
-    → moves_with (take (i + 1) dated) older ≡ add_moves of.0 of.1 (moves_with (take i dated) older)
+    → moves_with (take (i + 1) dated) older ≡ add_moves of.version of.moves (moves_with (take i dated) older)
 moves-next dated i of older there =
     ap (λ (some : List Dated). moves_with some older) (take_more dated i of (slice_get_within dated i of there))
-    ∙ fold-append (λ (moves : List Stamped) (one : Dated). add_moves one.0 one.1 moves) older (take i dated)
+    ∙ fold-append (λ (moves : List Stamped) (one : Dated). add_moves one.version one.moves moves) older (take i dated)
     (get_or dated i of ∷ [])
-    ∙ ap (λ (one : Dated). add_moves one.0 one.1 (moves_with (take i dated) older))
+    ∙ ap (λ (one : Dated). add_moves one.version one.moves (moves_with (take i dated) older))
     (get_or_from_slice_get dated i of of there)
 
 -- owners that agreed with the moves before those at an index agree with them too, once these were learnt
 pub agrees-next : (dated : List Dated) (i : ℕ) (of : Dated) (learnt : List Move) (first old new : Ownership)
-    → slice_get dated i ≡ Some of → learnt ≡ of.1 → HasLearnt old of.0 learnt new
+    → slice_get dated i ≡ Some of → learnt ≡ of.moves → HasLearnt old of.version learnt new
     → ((moves : List Stamped) → AgreesWith first moves → AgreesWith old (moves_with (take i dated) moves))
     → (moves : List Stamped) → AgreesWith first moves → AgreesWith new (moves_with (take (i + 1) dated) moves)
 agrees-next dated i of learnt first old new there same has before moves agrees =
     subst (AgreesWith new) (sym (moves-next dated i of moves there))
-    (learning_goes_on old new (moves_with (take i dated) moves) of.0 of.1 (before moves agrees)
-    (subst (λ (ms : List Move). HasLearnt old of.0 ms new) same has))
+    (learning_goes_on old new (moves_with (take i dated) moves) of.version of.moves (before moves agrees)
+    (subst (λ (ms : List Move). HasLearnt old of.version ms new) same has))
 
 -- a call that gave something left what it says
 pub given-leaves : {T : Type 0} (fault : Option Refusal) (given : T) (P : T → Type 0)
@@ -90,16 +88,16 @@ fresh-fault false false true none = cc
 fresh-fault false false false none = refl
 
 none-below : (last lower : ℕ) (dated : List Dated) → lower ≤ last
-    → list_any (λ (of : Dated). nat_le of.0 last) dated ≡ false → AreAbove lower dated
+    → list_any (λ (of : Dated). nat_le of.version last) dated ≡ false → AreAbove lower dated
 none-below last lower [] from none = tt
 none-below last lower (of ∷ dated) from none =
-    let above = or_parts (nat_le of.0 last) (list_any (λ (one : Dated). nat_le one.0 last) dated) none in
-    (omega (arith, from, leb-false of.0 last above.0), none-below last lower dated from above.1)
+    let above = or_parts (nat_le of.version last) (list_any (λ (one : Dated). nat_le one.version last) dated) none in
+    (omega (arith, from, leb-false of.version last above.0), none-below last lower dated from above.1)
 
 -- a ticket that may be learnt has moves above what the owners learnt
 pub moves-above : (p : CommitProxy) (ticket : Ticket) → ticket_fault p ticket ≡ None → p.owners.last ≤ p.last
     → AreAbove p.owners.last ticket.moves
 moves-above p ticket none learnt =
     none-below p.last p.owners.last ticket.moves learnt
-    (or_parts (nat_le ticket.version p.last) (list_any (λ (of : Dated). nat_le of.0 p.last) ticket.moves)
+    (or_parts (nat_le ticket.version p.last) (list_any (λ (of : Dated). nat_le of.version p.last) ticket.moves)
     (fresh-fault p.is_failed (not (is_sealed p.stage)) (is_stale p.last ticket) none)).1

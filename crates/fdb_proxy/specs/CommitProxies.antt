@@ -16,6 +16,7 @@ use Rattle.fdb_owners.specs.Ownership.{Ownership, resolvers_of, IsNew}
 use Rattle.fdb_owners.specs.OwnersLaws.{AgreesWith}
 use Rattle.fdb_resolver.specs.declared.part.Part.{Part}
 use Rattle.fdb_resolver.specs.declared.verdict.Verdicts.{Verdicts}
+use Rattle.fdb_sequencer.specs.declared.dated.Dated.{Dated}
 use Rattle.fdb_sequencer.specs.declared.ticket.Ticket.{Ticket}
 use Rattle.fdb_sequencer.specs.TicketLaws.{AreRisingUpTo, GoToResolvers}
 use Rattle.fdb_log.specs.declared.message.LogAck.{LogAck}
@@ -145,8 +146,9 @@ unsealing p =
     if is_sealed p.stage then record p { batch = []; waiting = p.batch ++ p.waiting; stage = stage.Idle } else p
 
 -- the moves of a list by versions, after older ones
-abbrev pub moves_with : List (ℕ × List Move) → List Stamped → List Stamped
-moves_with dated older = fold (λ (moves : List Stamped) (of : ℕ × List Move). add_moves of.0 of.1 moves) older dated
+abbrev pub moves_with : List Dated → List Stamped → List Stamped
+moves_with dated older =
+    fold (λ (moves : List Stamped) (one : Dated). add_moves one.version one.moves moves) older dated
 
 -- The ticket may be learnt: its moves go to resolvers that exist, at versions that rise up to the ticket's, which lies
 -- above what the batch read at.
@@ -157,7 +159,7 @@ pub record IsTicketFor (p : CommitProxy) (ticket : Ticket) : Type 0 where
 
 -- its version, or that of one of its moves, isn't above that of the last ticket
 abbrev pub is_stale : ℕ → Ticket → Bool
-is_stale last ticket = nat_le ticket.version last || list_any (λ (of : ℕ × List Move). nat_le of.0 last) ticket.moves
+is_stale last ticket = nat_le ticket.version last || list_any (λ (one : Dated). nat_le one.version last) ticket.moves
 
 -- why a ticket isn't learnt
 abbrev pub learn_fault : CommitProxy → Ticket → Option Refusal

@@ -9,20 +9,20 @@ use Rattle.fdb_proxy.specs.declared.requests.Requests.TheInside.{Inside}
 use Rattle.fdb_proxy.specs.Names.{has, room_of}
 use Rattle.fdb_proxy.specs.Requests.{Requests, is_named, AreNamedApart}
 
--- the transactions of a front that may be absent
-abbrev pub front_of : Option Batch → List Transaction
-front_of (Some batch) = batch
-front_of None = []
+-- the transactions of a batch that may be absent
+abbrev pub places_of : Option Batch → List Transaction
+places_of (Some batch) = batch
+places_of None = []
 
--- the front, and then those that wait behind it
+-- those of the last batch, and then those that wait behind it
 abbrev pub all_of : Inside → List Transaction
-all_of r = front_of r.front ++ r.list.items
+all_of r = places_of r.last_batch ++ r.list.items
 
--- how many more may be submitted without memory, where there is room for the ids of the front; each takes a place in
--- the list, one among the names, and room for its id where it is refused
+-- how many more may be submitted without memory, where there is room for the ids of the last batch; each takes a
+-- place in the list, one among the names, and room for its id where it is refused
 abbrev pub spare_of : Inside → ℕ
 spare_of r =
-    let first = length (front_of r.front) in
+    let first = length (places_of r.last_batch) in
     if nat_le first (vec_capacity r.room)
     then min (room_of r.names)
     (min (vec_capacity r.list - vec_len r.list) (vec_capacity r.ids - (first + vec_len r.list)))
@@ -30,8 +30,8 @@ spare_of r =
 
 abbrev pub requests_of : Inside → Requests
 requests_of r = record {
-  batch = if r.is_in_flight then front_of r.front else [];
-  waiting = (if r.is_in_flight then [] else front_of r.front) ++ r.list.items;
+  batch = if r.is_in_flight then places_of r.last_batch else [];
+  waiting = (if r.is_in_flight then [] else places_of r.last_batch) ++ r.list.items;
   spare = spare_of r;
 }
 
@@ -43,9 +43,9 @@ pub record AreNamesOf (names : Names) (transactions : List Transaction) : Type 0
 -- what holds of the fields of all requests
 pub record AreRequests (r : Inside) : Type 0 where
   -- there is room for the ids of all
-  pub ids : length (front_of r.front) + vec_len r.list ≤ vec_capacity r.ids
-  -- once the ids of those behind the front are given away, there is room for those of the front
-  pub room : 0 < vec_len r.list → length (front_of r.front) ≤ vec_capacity r.room
+  pub ids : length (places_of r.last_batch) + vec_len r.list ≤ vec_capacity r.ids
+  -- once the ids of those behind the last batch are given away, there is room for those of that batch
+  pub room : 0 < vec_len r.list → length (places_of r.last_batch) ≤ vec_capacity r.room
   pub no_ids : r.ids.items ≡ []
   pub none_in_room : r.room.items ≡ []
   -- an id is looked up among the names alone

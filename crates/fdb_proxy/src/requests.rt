@@ -4,7 +4,7 @@ ghost use Rattle.std.specs.Prelude.{vec_capacity, IfOk, OnOk, OnErr};
 ghost use Rattle.fdb_txn.specs.Limits.{place_limit};
 ghost use Rattle.fdb_txn.specs.book.Transactions.{Transaction};
 ghost use Rattle.fdb_proxy.specs.Names.{has};
-ghost use Rattle.fdb_proxy.specs.RequestFields.{front_of};
+ghost use Rattle.fdb_proxy.specs.RequestFields.{places_of};
 ghost use Rattle.fdb_proxy.specs.Requests.{place_of, is_named};
 
 use crate::names::Names;
@@ -26,10 +26,10 @@ use std::mem;
 #[derive(Drop)]
 pub(crate) struct Requests {
     // the batch that was sealed last, until its transactions are dropped
-    front: Option<Batch>,
-    // whether the front is in flight; else its transactions are the first that wait
+    last_batch: Option<Batch>,
+    // whether the last batch is in flight; else its transactions are the first that wait
     is_in_flight: bool,
-    // those that wait behind the front
+    // those that wait behind the last batch
     list: Vec<Sealed>,
     // both empty, and kept for their room
     ids: Vec<TxnId>,
@@ -61,7 +61,7 @@ impl Requests {
         ensures { Holds result [] [] }
     {
         Requests {
-            front: None,
+            last_batch: None,
             is_in_flight: false,
             list: Vec::new(alloc),
             ids: Vec::new(alloc),
@@ -77,7 +77,7 @@ impl Requests {
         ensures ready { 1 ≤ self.old.spare → IsOk result }
     {
         self.list.reserve(1)?;
-        let first = places_of(&self.front).len();
+        let first = places_of(&self.last_batch).len();
         self.ids.reserve(first + self.list.len() + 1)?;
         self.names.reserve()?;
         self.room.reserve(first)
@@ -108,7 +108,7 @@ impl Requests {
         if !self.names.contains(id) {
             return None;
         }
-        place_in(places_of(&self.front), &self.list, id)
+        place_in(places_of(&self.last_batch), &self.list, id)
     }
 
     /// The transactions of the batch, by place.
@@ -117,7 +117,7 @@ impl Requests {
         ensures within { length self.now.batch ≤ place_limit }
     {
         if self.is_in_flight {
-            places_of(&self.front)
+            places_of(&self.last_batch)
         } else {
             &[]
         }
@@ -127,7 +127,7 @@ impl Requests {
     pub(crate) fn nobody_waits(&self) -> bool
         ensures { result ≡ (length self.now.waiting == 0) }
     {
-        self.list.is_empty() && (self.is_in_flight || places_of(&self.front).is_empty())
+        self.list.is_empty() && (self.is_in_flight || places_of(&self.last_batch).is_empty())
     }
 
     /// The first 4,096 of those that wait become the batch, all of them where there are no more. Answers the batch,
@@ -142,12 +142,12 @@ impl Requests {
             (Holds self.new (take place_limit self.old.waiting) (drop place_limit self.old.waiting)) }
         ensures err { OnErr result (Holds self.new self.old.batch self.old.waiting) }
     {
-        let first = places_of(&self.front).len();
+        let first = places_of(&self.last_batch).len();
         self.room.reserve(PLACE_LIMIT.min(first + self.list.len()))?;
         // nobody is in the batch, so that all wait; whoever comes to the front waits too, until nothing can fail any
         // more
         self.is_in_flight = false;
-        let batch = share_front(&mut self.front, &mut self.list)?;
+        let batch = share_last_batch(&mut self.last_batch, &mut self.list)?;
         self.is_in_flight = true;
         Ok(batch)
     }
@@ -169,8 +169,8 @@ impl Requests {
             return Items::new(alloc);
         }
         if !self.is_in_flight {
-            push_ids(&mut self.ids, places_of(&self.front));
-            drop_front(&mut self.front, &mut self.names);
+            push_ids(&mut self.ids, places_of(&self.last_batch));
+            drop_last_batch(&mut self.last_batch, &mut self.names);
         }
         push_ids(&mut self.ids, &self.list);
         self.names.remove_all(&self.list);
@@ -184,7 +184,7 @@ impl Requests {
         ensures { Holds self.new [] self.old.waiting }
     {
         if self.is_in_flight {
-            drop_front(&mut self.front, &mut self.names);
+            drop_last_batch(&mut self.last_batch, &mut self.names);
             self.is_in_flight = false;
         }
     }
@@ -210,59 +210,64 @@ fn push_ids(ids: &mut Vec<TxnId>, transactions: &[Sealed])
     }
 }
 
-// The transactions of the front, by place.
-fn places_of(front: &Option<Batch>) -> &[Sealed]
-    ensures value { result.now ≡ front_of front.now }
-    ensures within { length (front_of front.now) ≤ place_limit }
+// The transactions of the last batch, by place.
+fn places_of(last_batch: &Option<Batch>) -> &[Sealed]
+    ensures value { result.now ≡ places_of last_batch.now }
+    ensures within { length (places_of last_batch.now) ≤ place_limit }
 {
-    match front {
+    match last_batch {
         Some(batch) => batch.as_slice(),
         None => &[],
     }
 }
 
-// The front is dropped, and its ids are taken out of the names.
-fn drop_front(front: &mut Option<Batch>, names: &mut Names)
-    ensures none { front.new ≡ None }
-    ensures names { (id : TxnId) → has names.new id ≡ (not (is_named (front_of front.old) id) && has names.old id) }
+// The last batch is dropped, and its ids are taken out of the names.
+fn drop_last_batch(last_batch: &mut Option<Batch>, names: &mut Names)
+    ensures none { last_batch.new ≡ None }
+    ensures names { (id : TxnId) → has names.new id
+        ≡ (not (is_named (places_of last_batch.old) id) && has names.old id) }
 {
-    names.remove_all(places_of(front));
-    *front = None;
+    names.remove_all(places_of(last_batch));
+    *last_batch = None;
 }
 
-// Brings the first 4,096 of all to the front, and answers a batch that shares them. The order of all stays, also where
-// memory runs out. It takes O(n) time for n of them.
-fn share_front(front: &mut Option<Batch>, list: &mut Vec<Sealed>) -> Result<Batch, AllocError>
-    ensures batch { IfOk result (λ batch. front.new ≡ Some batch) }
-    ensures first { OnOk result (front_of front.new ≡ take place_limit (front_of front.old ++ list.old.items)) }
-    ensures within { length (front_of front.new) ≤ place_limit }
-    ensures same { front_of front.new ++ list.new.items ≡ front_of front.old ++ list.old.items }
+// Brings the first 4,096 of all into the last batch, and answers a batch that shares them. The order of all stays, also
+// where memory runs out. It takes O(n) time for n of them.
+fn share_last_batch(
+    last_batch: &mut Option<Batch>,
+    list: &mut Vec<Sealed>,
+) -> Result<Batch, AllocError>
+    ensures batch { IfOk result (λ batch. last_batch.new ≡ Some batch) }
+    ensures first { OnOk result (places_of last_batch.new
+        ≡ take place_limit (places_of last_batch.old ++ list.old.items)) }
+    ensures within { length (places_of last_batch.new) ≤ place_limit }
+    ensures same { places_of last_batch.new ++ list.new.items ≡ places_of last_batch.old ++ list.old.items }
 {
-    if let Some(batch) = front {
+    if let Some(batch) = last_batch {
         let count = batch.as_slice().len();
         if list.is_empty() || count == PLACE_LIMIT {
             return Ok(batch.clone()?);
         }
     }
-    let batch = gather(places_of(front), list)?;
+    let batch = gather(places_of(last_batch), list)?;
     let shared: Result<Batch, AllocError> = batch.clone();
-    *front = Some(batch);
+    *last_batch = Some(batch);
     shared
 }
 
 // The first 4,096 of all, and the others are left in the list. Where memory runs out, nothing changes. A batch that is
 // shared doesn't grow, and a list is shared only as a whole: else the first ones are copied.
-fn gather(front: &[Sealed], list: &mut Vec<Sealed>) -> Result<Batch, AllocError>
-    requires { length front.now ≤ place_limit }
-    ensures first { IfOk result (λ batch. batch ≡ take place_limit (front.now ++ list.old.items)) }
-    ensures same { IfOk result (λ batch. batch ++ list.new.items ≡ front.now ++ list.old.items) }
+fn gather(first: &[Sealed], list: &mut Vec<Sealed>) -> Result<Batch, AllocError>
+    requires { length first.now ≤ place_limit }
+    ensures first { IfOk result (λ batch. batch ≡ take place_limit (first.now ++ list.old.items)) }
+    ensures same { IfOk result (λ batch. batch ++ list.new.items ≡ first.now ++ list.old.items) }
     ensures err { OnErr result (list.new.items ≡ list.old.items) }
 {
-    if front.is_empty() && list.len() <= PLACE_LIMIT {
+    if first.is_empty() && list.len() <= PLACE_LIMIT {
         return Ok(Batch::new(share_all(list)?));
     }
-    let count = (PLACE_LIMIT - front.len()).min(list.len());
-    let places = copies(*list.allocator(), front, &list[..count])?;
+    let count = (PLACE_LIMIT - first.len()).min(list.len());
+    let places = copies(*list.allocator(), first, &list[..count])?;
     drop(list.drain(..count));
     Ok(Batch::new(places))
 }

@@ -13,10 +13,10 @@ ghost use Rattle.fdb_proxy.specs.CommitProxies.{is_stale, moves_with, HaveLearnt
 use crate::parting::parts_of;
 use crate::position::Position;
 use crate::resolving::Resolving;
-use fdb_keys::{Items, Refusal};
+use fdb_keys::Refusal;
 use fdb_owners::Owners;
-use fdb_sequencer::Ticket;
-use fdb_txn::{Move, Sealed, WINDOW};
+use fdb_sequencer::{Dated, Ticket};
+use fdb_txn::{Sealed, WINDOW};
 use std::alloc::Global;
 
 /// Whether the ticket's version, or that of one of its moves, isn't above the last one.
@@ -26,16 +26,16 @@ pub(crate) fn is_stale(last: u64, ticket: &Ticket) -> bool
     ticket.version <= last || are_any_stale(last, ticket.moves.as_slice())
 }
 
-fn are_any_stale(last: u64, dated: &[(u64, Items<Move>)]) -> bool
-    ensures { result ≡ list_any (λ of. nat_le of.0 last) dated.now }
+fn are_any_stale(last: u64, dated: &[Dated]) -> bool
+    ensures { result ≡ list_any (λ one. nat_le one.version last) dated.now }
 {
-    dated.iter().any(|of| of.0 <= last)
+    dated.iter().any(|one| one.version <= last)
 }
 
 // Learns the moves of a ticket, version by version.
-fn learn_all(owners: &mut Owners, dated: &[(u64, Items<Move>)], version: u64) -> Result<(), Refusal>
+fn learn_all(owners: &mut Owners, dated: &[Dated], version: u64) -> Result<(), Refusal>
     requires rising { AreRisingUpTo version dated.now }
-    requires above { AllByRecursion (λ of. owners.old.last < of.0) dated.now }
+    requires above { AllByRecursion (λ one. owners.old.last < one.version) dated.now }
     requires targets { GoToResolvers (resolvers_of owners.old) dated.now }
     requires through { owners.old.last ≤ version }
     ensures answers { Answers result None (λ _. (moves : List Stamped) → AgreesWith owners.old moves
@@ -44,8 +44,8 @@ fn learn_all(owners: &mut Owners, dated: &[(u64, Items<Move>)], version: u64) ->
     ensures floor { owners.new.floor ≡ owners.old.floor }
     ensures last { owners.new.last ≤ version }
 {
-    for of in dated {
-        owners.learn(of.0, of.1.as_slice())?;
+    for one in dated {
+        owners.learn(one.version, one.moves.as_slice())?;
     }
     Ok(())
 }
@@ -60,7 +60,7 @@ pub(crate) fn resolve(
     requires few { length batch.now < 2 ^ 32 }
     requires later { AllByRecursion (λ (t : Transaction). t.read < ticket.now.version) batch.now }
     requires rising { AreRisingUpTo ticket.now.version ticket.now.moves }
-    requires above { AllByRecursion (λ of. owners.old.last < of.0) ticket.now.moves }
+    requires above { AllByRecursion (λ one. owners.old.last < one.version) ticket.now.moves }
     requires targets { GoToResolvers (resolvers_of owners.old) ticket.now.moves }
     requires through { owners.old.last ≤ ticket.now.version }
     requires floor { owners.old.floor ≤ ticket.now.version - window }

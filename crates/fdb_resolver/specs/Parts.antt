@@ -1,14 +1,14 @@
 -- Which parts a resolver may be given.
-use Rattle.std.specs.Prelude.{◌≡◌, ◌<◌, ⊤, true, List, [], ◌∷◌}
+use Rattle.std.specs.Prelude.{◌≡◌, ◌<◌, true, List}
 use Rattle.std.specs.List.{AllByRecursion}
+use Rattle.fdb_keys.specs.Ordered.{AreOrdered}
 use Rattle.fdb_txn.specs.rules.Admission.{has_points}
 use Rattle.fdb_resolver.specs.declared.part.Item.{Item}
 use Rattle.fdb_resolver.specs.declared.part.Part.{Part}
 
 -- each place has a greater number than those before it
 abbrev pub AreRising : List Item → Type 0
-AreRising [] = ⊤
-AreRising (item ∷ items) = AllByRecursion (λ (later : Item). item.place < later.place) items × AreRising items
+AreRising items = AreOrdered (λ (item later : Item). item.place < later.place) items
 
 -- The entry's version is above that of the entry before it, the places rise, and a transaction of which the
 -- resolver is sent reads has reads.

@@ -1,8 +1,8 @@
 // Sequencers with known answers.
 use crate::asserting::same;
-use fdb_keys::{Items, KeyRange, Refusal};
+use fdb_keys::{KeyRange, Refusal};
 use fdb_making::{ask_mut, code_of, has_bounds, is_done, made_of};
-use fdb_sequencer::{SequencerCore, Ticket};
+use fdb_sequencer::{Dated, SequencerCore, Ticket};
 use fdb_txn::Move;
 use std::alloc::Global;
 use std::process::Abort;
@@ -222,10 +222,12 @@ fn go_to(moves: &[Move], targets: &[u32]) -> bool {
 }
 
 // Whether these are the moves to the resolvers at the version, and none where there is no resolver.
-fn are_at(dated: &[(u64, Items<Move>)], version: u64, targets: &[u32]) -> bool {
+fn are_at(dated: &[Dated], version: u64, targets: &[u32]) -> bool {
     match dated {
         [] => targets.is_empty(),
-        [of] => of.0 == version && !targets.is_empty() && go_to(of.1.as_slice(), targets),
+        [one] => one.version == version
+            && !targets.is_empty()
+            && go_to(one.moves.as_slice(), targets),
         _ => false,
     }
 }

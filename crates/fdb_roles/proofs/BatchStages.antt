@@ -18,7 +18,7 @@ use Rattle.fdb_resolver.specs.declared.part.Part.{Part}
 use Rattle.fdb_resolver.specs.declared.verdict.Verdicts.{Verdicts}
 use Rattle.fdb_sequencer.specs.declared.ticket.Ticket.{Ticket}
 use Rattle.fdb_sequencer.specs.TicketLaws.{GoToResolvers, MayBeLearnt}
-use Rattle.fdb_sequencer.specs.Moves.{Dated}
+use Rattle.fdb_sequencer.specs.declared.dated.Dated.{Dated}
 use Rattle.fdb_log.specs.declared.message.LogAck.{LogAck}
 use Rattle.fdb_storage.specs.LogMessages.{log_messages}
 use Rattle.fdb_proxy.specs.declared.config.Config.{Config}
@@ -44,10 +44,10 @@ use Rattle.fdb_roles.proofs.BookLemmas.{entries-take, last-push, seen-before-las
 use Rattle.fdb_roles.proofs.MoveLemmas.{moves-append, moves-of-book}
 
 -- moves that are all above a version
-fresh-moves : (last : ℕ) (moves : List Dated) → AllByRecursion (λ (of : Dated). last < of.0) moves
-    → list_any (λ (of : Dated). nat_le of.0 last) moves ≡ false
+fresh-moves : (last : ℕ) (moves : List Dated) → AllByRecursion (λ (of : Dated). last < of.version) moves
+    → list_any (λ (of : Dated). nat_le of.version last) moves ≡ false
 fresh-moves last [] above = refl
-fresh-moves last (of ∷ moves) above = rw (lt-leb of.0 last above.0) (fresh-moves last moves above.1)
+fresh-moves last (of ∷ moves) above = rw (lt-leb of.version last above.0) (fresh-moves last moves above.1)
 
 -- A ticket that may be learnt by who had one of a version.
 module _ (splits : List Point) (p : Core) (ticket : Ticket) (same : p.owners.splits ≡ splits)

@@ -3,7 +3,7 @@ pub use Rattle.fdb_roles.proofs.AllLemmas.{all-at, all-both, all-drop, all-map, 
 pub use Rattle.fdb_roles.proofs.AllLemmas.{all-set, all-take, contains-item, item-contained, within-item}
 pub use Rattle.fdb_roles.proofs.BatchStages.{IsLearnt, asked, is-learnt, messages-decided, outcomes-decided}
 pub use Rattle.fdb_roles.proofs.BatchStages.{ticket-fits, ticket-learns}
-pub use Rattle.fdb_roles.proofs.BodyLemmas.{commit-at, length-answers, length-outcomes_on}
+pub use Rattle.fdb_roles.proofs.BodyLemmas.{length-answers, length-outcomes_on}
 pub use Rattle.fdb_roles.proofs.BookLemmas.{below-last, entries-take, last-above, last-push, seen-before-last}
 pub use Rattle.fdb_roles.proofs.BookLemmas.{seen-front, seen_before-next, take-next, take-take}
 pub use Rattle.fdb_roles.proofs.CommittedLaws.{reads_of_the_committed_stand}

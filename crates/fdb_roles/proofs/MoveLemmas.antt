@@ -4,15 +4,17 @@ use Rattle.std.proofs.Common.{map, fold, subst, unwrap_or, arith}
 use Rattle.std.specs.List.{AllByRecursion, slice_get, slice_set}
 use Rattle.std.proofs.lemmas.List.{append-nil, append_assoc, length-map, length-set}
 use Rattle.std.proofs.lemmas.List.Sums.{fold-append, sum_by_push}
+use Rattle.fdb_keys.proofs.Exports.{all-append, all-weaken}
 use Rattle.fdb_txn.specs.declared.entry.Entry.{Entry}
 use Rattle.fdb_txn.specs.declared.entry.Move.{Move}
 use Rattle.fdb_txn.specs.book.Book.{Seen, Stamped, add_entry, add_moves, last_version, nothing, seen_of}
 use Rattle.fdb_txn.specs.book.History.{AreEntries}
 use Rattle.fdb_txn.specs.laws.SerialMapLaws.{version_after}
-use Rattle.fdb_txn.proofs.Exports.{all-append, all-weaken, entries-split}
+use Rattle.fdb_txn.proofs.Exports.{entries-split}
 use Rattle.fdb_sequencer.specs.declared.ticket.Ticket.{Ticket}
 use Rattle.fdb_sequencer.specs.TicketLaws.{AreRisingUpTo, GoToResolvers, MayBeLearnt}
-use Rattle.fdb_sequencer.specs.Moves.{Dated, dated}
+use Rattle.fdb_sequencer.specs.declared.dated.Dated.{Dated}
+use Rattle.fdb_sequencer.specs.Moves.{dated}
 use Rattle.fdb_sequencer.specs.Sequencer.{Sequencer, accepting, unlearnt_by}
 use Rattle.fdb_proxy.specs.CommitProxies.{moves_with}
 use Rattle.fdb_roles.specs.Entries.{dated_moves, moves_in}
@@ -28,7 +30,7 @@ dated-with version (move ∷ moves) older = refl
 pub moves-append : (first more : List Dated) (older : List Stamped)
     → moves_with (first ++ more) older ≡ moves_with more (moves_with first older)
 moves-append first more older =
-    fold-append (λ (moves : List Stamped) (of : Dated). add_moves of.0 of.1 moves) older first more
+    fold-append (λ (moves : List Stamped) (of : Dated). add_moves of.version of.moves moves) older first more
 
 -- the moves of more entries come after those of the first ones
 pub dated_moves-append : (book more : List Entry)
@@ -57,7 +59,7 @@ pub moves-of-book : (book : List Entry) → moves_with (dated_moves book) [] ≡
 moves-of-book book = moves-seen book nothing
 
 -- what holds of a version's moves holds of them where there are any
-dated-all : (P : Dated → Type 0) (version : ℕ) (moves : List Move) → P (version, moves)
+dated-all : (P : Dated → Type 0) (version : ℕ) (moves : List Move) → P (record { version = version; moves = moves })
     → AllByRecursion P (dated version moves)
 dated-all P version [] holds = tt
 dated-all P version (move ∷ moves) holds = (holds, tt)
@@ -65,13 +67,13 @@ dated-all P version (move ∷ moves) holds = (holds, tt)
 -- The moves of entries after a version may be learnt by who learnt those up to it.
 module _ (resolvers : ℕ) where
   moves-later : (last : ℕ) (entries : List Entry) → AreEntries resolvers last entries
-      → AllByRecursion (λ (of : Dated). last < of.0) (dated_moves entries)
+      → AllByRecursion (λ (of : Dated). last < of.version) (dated_moves entries)
   moves-later last [] are = tt
   moves-later last (entry ∷ entries) are =
       let later = are.0 in
-      all-append (λ (of : Dated). last < of.0) (dated entry.version entry.moves) (dated_moves entries)
-      (dated-all (λ (of : Dated). last < of.0) entry.version entry.moves later)
-      (all-weaken (λ (of : Dated). entry.version < of.0) (λ (of : Dated). last < of.0)
+      all-append (λ (of : Dated). last < of.version) (dated entry.version entry.moves) (dated_moves entries)
+      (dated-all (λ (of : Dated). last < of.version) entry.version entry.moves later)
+      (all-weaken (λ (of : Dated). entry.version < of.version) (λ (of : Dated). last < of.version)
       (λ of above. omega (arith, later, above)) (dated_moves entries) (moves-later entry.version entries are.4))
 
   moves-rising : (last through : ℕ) (entries : List Entry) → AreEntries resolvers last entries
@@ -91,7 +93,7 @@ module _ (resolvers : ℕ) where
       → GoToResolvers resolvers (dated_moves entries)
   moves-exist last [] are = tt
   moves-exist last (entry ∷ entries) are =
-      let Exist : Dated → Type 0 = λ (of : Dated). AllByRecursion (λ (move : Move). move.to < resolvers) of.1 in
+      let Exist : Dated → Type 0 = λ (of : Dated). AllByRecursion (λ (move : Move). move.to < resolvers) of.moves in
       all-append Exist (dated entry.version entry.moves) (dated_moves entries)
       (dated-all Exist entry.version entry.moves are.2) (moves-exist entry.version entries are.4)
 
@@ -125,7 +127,7 @@ module _ (resolvers : ℕ) where
       let through : version_after last all ≡ ticket.version = version-push last more entry ∙ version in
       record {
         later = subst (λ (v : ℕ). last < v) version (later-than last more entry are);
-        above = subst (AllByRecursion (λ (of : Dated). last < of.0)) (sym moves) (moves-later last all are);
+        above = subst (AllByRecursion (λ (of : Dated). last < of.version)) (sym moves) (moves-later last all are);
         rising = subst (AreRisingUpTo ticket.version) (sym moves)
             (moves-rising last ticket.version all are (omega (arith, through)));
         targets = subst (GoToResolvers resolvers) (sym moves) (moves-exist last all are);

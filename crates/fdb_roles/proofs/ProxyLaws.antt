@@ -6,15 +6,15 @@ use Rattle.std.proofs.lemmas.List.{append_assoc, length-replicate}
 use Rattle.std.proofs.lemmas.Option.{same_Some}
 use Rattle.fdb_keys.specs.declared.refusal.Refusal.{Refusal}
 use Rattle.fdb_keys.specs.declared.refusal.Refusal.TheVariants.{WrongState}
+use Rattle.fdb_keys.proofs.Exports.{all-weaken}
 use Rattle.fdb_txn.specs.declared.entry.Entry.{Entry}
 use Rattle.fdb_txn.specs.book.Book.{seen_of, seen_before}
 use Rattle.fdb_txn.specs.book.History.{AreEntries}
 use Rattle.fdb_txn.specs.book.Places.{place_of}
 use Rattle.fdb_txn.specs.book.Transactions.{Transaction, NamesWrites}
-use Rattle.fdb_txn.proofs.Exports.{all-weaken}
 use Rattle.fdb_owners.proofs.Exports.{new_goes_on}
 use Rattle.fdb_sequencer.specs.declared.ticket.Ticket.{Ticket}
-use Rattle.fdb_sequencer.specs.Moves.{Dated}
+use Rattle.fdb_sequencer.specs.declared.dated.Dated.{Dated}
 use Rattle.fdb_sequencer.specs.TicketLaws.{MayBeLearnt}
 use Rattle.fdb_log.specs.declared.message.LogAck.{LogAck}
 use Rattle.fdb_storage.specs.LogMessages.{log_messages}

@@ -7,6 +7,7 @@ use Rattle.std.proofs.lemmas.Bool.{and_parts, cond-false, eq-eqb, le-ltb}
 use Rattle.std.proofs.lemmas.List.Elements.{All-from_recursion}
 use Rattle.std.proofs.lemmas.Option.{get_or_from_slice_get}
 use Rattle.fdb_keys.specs.Points.{Point}
+use Rattle.fdb_keys.proofs.Exports.{all-weaken}
 use Rattle.fdb_interval.specs.Versions.{version_at}
 use Rattle.fdb_txn.specs.declared.entry.Entry.{Entry}
 use Rattle.fdb_txn.specs.declared.entry.Move.{Move}
@@ -17,7 +18,7 @@ use Rattle.fdb_txn.specs.rules.Owners.{window}
 use Rattle.fdb_txn.specs.rules.Admission.{has_points}
 use Rattle.fdb_txn.specs.rules.Resolvers.{AgreeFrom, IsStateOf}
 use Rattle.fdb_txn.specs.laws.SerialMapLaws.{version_after}
-use Rattle.fdb_txn.proofs.Exports.{all-weaken, places_are_history, seen_of-push, points_from-in_set, point_of-set}
+use Rattle.fdb_txn.proofs.Exports.{places_are_history, seen_of-push, points_from-in_set, point_of-set}
 use Rattle.fdb_txn.proofs.Exports.{state_forgets}
 use Rattle.fdb_resolver.specs.declared.part.Item.{Item}
 use Rattle.fdb_resolver.specs.declared.part.Part.{Part}

@@ -10,7 +10,7 @@ use Rattle.fdb_txn.specs.declared.tag_msg.TagMsg.{TagMsg}
 use Rattle.fdb_txn.specs.rules.Messages.{messages_for}
 use Rattle.fdb_txn.specs.rules.Splits.{piece}
 use Rattle.fdb_txn.proofs.Exports.{get-effects}
-use Rattle.fdb_sequencer.specs.Moves.{Dated}
+use Rattle.fdb_sequencer.specs.declared.dated.Dated.{Dated}
 use Rattle.fdb_log.specs.Logs.{keeps, kept, popped_through}
 use Rattle.fdb_log.specs.Messages.{above}
 use Rattle.fdb_client.specs.Programs.{commit_request_of}
@@ -45,7 +45,8 @@ other_sequencers_are_elsewhere = (
   (λ at.
       let last = at.unlearnt 0 in
       let none : length last.0 + 1 ≡ 0 =
-      sym (length-append last.0 ((1, to_one ∷ []) ∷ [])) ∙ ap (λ (moves : List Dated). length moves) last.1 in
+      sym (length-append last.0 (record { version = 1; moves = to_one ∷ [] } ∷ []))
+      ∙ ap (λ (moves : List Dated). length moves) last.1 in
       omega (arith, none)),
 )
 

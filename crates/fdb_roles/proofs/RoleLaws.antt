@@ -23,7 +23,8 @@ use Rattle.fdb_owners.specs.OwnersLaws.{AgreesWith}
 use Rattle.fdb_owners.proofs.Exports.{learning_goes_on}
 use Rattle.fdb_resolver.specs.declared.verdict.Verdict.{Verdict}
 use Rattle.fdb_sequencer.specs.declared.ticket.Ticket.{Ticket}
-use Rattle.fdb_sequencer.specs.Moves.{Dated, dated}
+use Rattle.fdb_sequencer.specs.declared.dated.Dated.{Dated}
+use Rattle.fdb_sequencer.specs.Moves.{dated}
 use Rattle.fdb_sequencer.specs.Sequencer.{Sequencer, accepting, unlearnt_by}
 use Rattle.fdb_sequencer.proofs.Exports.{accepted_is_now}
 use Rattle.fdb_log.specs.declared.message.LogMsg.{LogMsg}

@@ -6,13 +6,14 @@ use Rattle.std.proofs.lemmas.List.{length-append, take_all}
 use Rattle.std.proofs.lemmas.List.Sums.{fold-append}
 use Rattle.std.proofs.Math.Seq.{take-append_seam}
 use Rattle.fdb_keys.specs.Points.{Point}
+use Rattle.fdb_keys.proofs.Exports.{all-weaken}
 use Rattle.fdb_txn.specs.declared.entry.Entry.{Entry}
 use Rattle.fdb_txn.specs.book.Transactions.{Transaction}
 use Rattle.fdb_txn.specs.book.Book.{Stamped, Place, Seen, nothing, placed, add_places, add_entry, seen_of, last_version}
 use Rattle.fdb_txn.specs.book.Book.{seen_before}
 use Rattle.fdb_txn.specs.rules.SerialMap.{serial_map, up_to, serial_map_at}
 use Rattle.fdb_txn.specs.book.History.{AreLinked, AreEntries, ReadsBelow}
-use Rattle.fdb_txn.proofs.Exports.{all-weaken, AtMost, add_places-newer, up_to-above, up_to-all, at_most-more}
+use Rattle.fdb_txn.proofs.Exports.{AtMost, add_places-newer, up_to-above, up_to-all, at_most-more}
 use Rattle.fdb_proxy.specs.Verdicts.{moves_through}
 use Rattle.fdb_roles.specs.Entries.{IsRising}
 

@@ -9,7 +9,7 @@ use Rattle.fdb_keys.specs.declared.refusal.Refusal.TheVariants.{BadConfig}
 use Rattle.fdb_keys.specs.declared.refusal.Refusal.{Refusal}
 use Rattle.fdb_txn.specs.rules.Splits.{are_splits, splits_fault}
 use Rattle.fdb_txn.specs.Limits.{resolver_limit, proxy_limit, log_limit, shard_limit, book_limit}
-use Rattle.fdb_sequencer.specs.Moves.{Dated}
+use Rattle.fdb_sequencer.specs.declared.dated.Dated.{Dated}
 use Rattle.fdb_sequencer.specs.Sequencer.{is_count}
 use Rattle.fdb_proxy.specs.Configs.{config_fault, has_legal_counts}
 use Rattle.fdb_proxy.specs.declared.config.Config.{Config}

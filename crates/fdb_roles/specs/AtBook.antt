@@ -15,7 +15,7 @@ use Rattle.fdb_txn.specs.rules.SerialMap.{serial_map_at}
 use Rattle.fdb_txn.specs.rules.Splits.{piece}
 use Rattle.fdb_resolver.specs.Resolvers.{Resolver}
 use Rattle.fdb_resolver.specs.Resolvers as resolver
-use Rattle.fdb_sequencer.specs.Moves.{Dated}
+use Rattle.fdb_sequencer.specs.declared.dated.Dated.{Dated}
 use Rattle.fdb_sequencer.specs.Sequencer.{Sequencer, unlearnt_by}
 use Rattle.fdb_log.specs.Logs as logs
 use Rattle.fdb_log.specs.Logs.{Log, keeps, kept, popped_through}

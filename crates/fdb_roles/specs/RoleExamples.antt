@@ -22,7 +22,8 @@ OtherSequencersAreElsewhere =
     × (IsSequencerAt two_in_one_entry (pending []) → ⊥)
     × (IsSequencerAt [] (record (pending []) { committed = 1 }) → ⊥)
     × (IsSequencerAt [] (pending (record to_one { to = 2 } ∷ [])) → ⊥)
-    × (IsSequencerAt [] (record (pending []) { unlearnt = ((1, to_one ∷ []) ∷ []) ∷ [] }) → ⊥)
+    × (IsSequencerAt []
+    (record (pending []) { unlearnt = (record { version = 1; moves = to_one ∷ [] } ∷ []) ∷ [] }) → ⊥)
   where
     pending : List Move → Sequencer
     pending moves = record (fresh 1 2 0) { pending = moves }

@@ -156,8 +156,8 @@ fn play_clients<B: Named, R: Host>(
     let mut clients = Vec::new(alloc);
     let started = start_clients(rt, alloc, database, &mut clients);
     let moved = move_back_and_forth(rt, alloc, database, moves);
-    let joined = join_clients(rt, alloc, clients);
-    started.and(moved).and(joined)
+    let ended = join_clients(rt, alloc, clients);
+    started.and(moved).and(ended)
 }
 
 // Whether the record has the pair.

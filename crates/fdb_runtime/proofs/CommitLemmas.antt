@@ -113,7 +113,7 @@ turned-back config old new told transcript refused none begins settles turned = 
     λ is. absurd (not-full is),
   );
   begins = begins;
-  left = ⊎_elim (λ heard. left (longer old.front told.front) heard.2) (λ unknown. left old.front unknown.1) settles.1;
+  left = ⊎_elim (λ taken. left (longer old.front told.front) taken.2) (λ unknown. left old.front unknown.1) settles.1;
 }
   where
     down : (why : Refusal) → (refusal.CommitUnknownResult ≡ why → ⊥) → refused.why ≡ why

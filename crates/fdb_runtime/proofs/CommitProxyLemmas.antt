@@ -41,7 +41,8 @@ use Rattle.fdb_roles.proofs.Exports.{place-there, answers-fault, given-fault, re
 use Rattle.fdb_roles.proofs.Exports.{new_proxies_have_no_entry, proxies_hear_logs, proxies_hear_verdicts}
 use Rattle.fdb_roles.proofs.Exports.{proxies_decide_by_the_rule, messages_are_of_the_entry, proxies_answer_by_the_rule}
 use Rattle.fdb_roles.proofs.Exports.{answers_are_by_the_rule, take-next, seen-before-last, made-at}
-use Rattle.fdb_runtime.specs.CommitProxiesAtFronts.{CommitProxyAtFront, IsThere, AreLastParts, hear_fault}
+use Rattle.fdb_runtime.specs.CommitProxiesAtFronts as fronts
+use Rattle.fdb_runtime.specs.CommitProxiesAtFronts.{CommitProxyAtFront, IsThere, AreLastParts}
 use Rattle.fdb_runtime.specs.CommitProxiesAtFronts.{AreLastMessages, AreOutcomes}
 use Rattle.fdb_runtime.specs.Messages.{IsLastPart, IsLastMessage, VerdictsAtFront, AreLastVerdicts}
 
@@ -88,7 +89,7 @@ logged-or-stays config front old new ack (Ok done) answers refused there =
     subst (IsThere config front) (sym (given-fault (logged_fault old.proxy ack) done _ answers).1)
     (λ works. proxies_hear_logs config front old.proxy ack (there works))
 logged-or-stays config front old new ack (Err why) answers refused there =
-    subst (λ (core : ProxyWithRoom). IsThere config front core.proxy) (sym refused) there
+    subst (λ (state : ProxyWithRoom). IsThere config front state.proxy) (sym refused) there
 
 -- a batch that is given up, or isn't there
 pub unseals : (config : Config) (front : List Entry) (old new : CommitProxy)
@@ -248,10 +249,10 @@ sends-parts config front proxy (Ok parts) there answers =
     (parts-there config front proxy (there (works-of proxy _ given.0)) given.0)
 
 -- verdicts that come with the own front are taken
-pub hears : (config : Config) (own : List Entry) (proxy : CommitProxy) (sent : VerdictsAtFront)
+pub takes-verdicts : (config : Config) (own : List Entry) (proxy : CommitProxy) (sent : VerdictsAtFront)
     → IsThere config own proxy → AreLastVerdicts config.resolver_splits sent → sent.front ≡ own
     → verdict_fault proxy sent.verdicts ≡ None → IsThere config own (with_verdict proxy sent.verdicts)
-hears config own proxy sent there last same none = λ _.
+takes-verdicts config own proxy sent there last same none = λ _.
     proxies_hear_verdicts config own last.entry proxy sent.verdicts (there (works-of proxy _ none)) said none
   where
     whole : last.before ++ last.entry ∷ [] ≡ own
@@ -277,32 +278,32 @@ same-length own theirs count prefix = by_rest prefix.0 prefix.1
     by_rest (entry ∷ rest) is = absurd (omega (arith, count, ap length is, length-append own (entry ∷ rest)))
 
 -- verdicts that are taken, or not
-pub hears-or-stays : {T : Type 0} (config : Config) (own : List Entry) (old new : ProxyWithRoom)
+pub takes-verdicts-or-stays : {T : Type 0} (config : Config) (own : List Entry) (old new : ProxyWithRoom)
     (sent : VerdictsAtFront)
     → (result : Result T Refusal) → IsThere config own old.proxy → AreLastVerdicts config.resolver_splits sent
     → sent.front ≡ own
     → AnswersExactly result (verdict_fault old.proxy sent.verdicts)
     (λ _. new.proxy ≡ with_verdict old.proxy sent.verdicts)
     → OnErr result (new ≡ old) → IsThere config own new.proxy
-hears-or-stays config own old new sent (Ok done) there last same answers refused =
+takes-verdicts-or-stays config own old new sent (Ok done) there last same answers refused =
     let given = given-fault (verdict_fault old.proxy sent.verdicts) done _ answers in
-    subst (IsThere config own) (sym given.1) (hears config own old.proxy sent there last same given.0)
-hears-or-stays config own old new sent (Err why) there last same answers refused =
-    subst (λ (core : ProxyWithRoom). IsThere config own core.proxy) (sym refused) there
+    subst (IsThere config own) (sym given.1) (takes-verdicts config own old.proxy sent there last same given.0)
+takes-verdicts-or-stays config own old new sent (Err why) there last same answers refused =
+    subst (λ (state : ProxyWithRoom). IsThere config own state.proxy) (sym refused) there
 
 -- The proxy and the verdicts before the call, as they are within and as who calls sees them: those of a front as long
--- as the own one are answered as the core does.
-pub hear-answers : {T : Type 0} (old now : CommitProxyAtFront) (sent there : VerdictsAtFront) (new : CommitProxy)
+-- as the own one are answered as the state does.
+pub verdict-answers : {T : Type 0} (old now : CommitProxyAtFront) (sent there : VerdictsAtFront) (new : CommitProxy)
     → (result : Result T Refusal) → old ≡ now → sent ≡ there → length sent.front ≡ length old.front
-    → AnswersExactly result (verdict_fault old.core.proxy sent.verdicts)
-    (λ _. new ≡ with_verdict old.core.proxy sent.verdicts)
-    → AnswersExactly result (hear_fault now.front now.core.proxy there)
-    (λ _. new ≡ with_verdict now.core.proxy there.verdicts)
-hear-answers old now sent there new result same is count answers =
-    subst (λ (at : CommitProxyAtFront). AnswersExactly result (hear_fault at.front at.core.proxy there)
-    (λ _. new ≡ with_verdict at.core.proxy there.verdicts)) same
-    (subst (λ (told : VerdictsAtFront). AnswersExactly result (hear_fault old.front old.core.proxy told)
-    (λ _. new ≡ with_verdict old.core.proxy told.verdicts)) is
+    → AnswersExactly result (verdict_fault old.state.proxy sent.verdicts)
+    (λ _. new ≡ with_verdict old.state.proxy sent.verdicts)
+    → AnswersExactly result (fronts.verdict_fault now.front now.state.proxy there)
+    (λ _. new ≡ with_verdict now.state.proxy there.verdicts)
+verdict-answers old now sent there new result same is count answers =
+    subst (λ (at : CommitProxyAtFront). AnswersExactly result (fronts.verdict_fault at.front at.state.proxy there)
+    (λ _. new ≡ with_verdict at.state.proxy there.verdicts)) same
+    (subst (λ (told : VerdictsAtFront). AnswersExactly result (fronts.verdict_fault old.front old.state.proxy told)
+    (λ _. new ≡ with_verdict old.state.proxy told.verdicts)) is
     (rw (eq-eqb (length sent.front) (length old.front) count) answers))
 
 -- what resolvers said decides
@@ -318,7 +319,7 @@ decides config front old new (Ok outcomes) there entries answers refused =
     let last = asked-last config front old.proxy at given.0 in
     (proxies_decide_by_the_rule config front last.0 last.1 old.proxy at entries last.2 given.0).2)
 decides config front old new (Err why) there entries answers refused =
-    subst (λ (core : ProxyWithRoom). IsThere config front core.proxy) (sym refused) there
+    subst (λ (state : ProxyWithRoom). IsThere config front state.proxy) (sym refused) there
 
 -- the messages of one that is there
 pub sends-messages : (config : Config) (front : List Entry) (proxy : CommitProxy)

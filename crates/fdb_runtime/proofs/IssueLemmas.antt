@@ -18,7 +18,8 @@ use Rattle.fdb_txn.proofs.Exports.{entries_go_on}
 use Rattle.fdb_book.specs.Appending.{goes_on, ids_fault, append_fault, Appends}
 use Rattle.fdb_book.specs.Ids.{repeated_place}
 use Rattle.fdb_sequencer.specs.declared.ticket.Ticket.{Ticket}
-use Rattle.fdb_sequencer.specs.Moves.{Dated, dated}
+use Rattle.fdb_sequencer.specs.declared.dated.Dated.{Dated}
+use Rattle.fdb_sequencer.specs.Moves.{dated}
 use Rattle.fdb_sequencer.specs.Sequencer.{Sequencer, planned, plan_fault, accept_fault, accepting, unlearnt_by}
 use Rattle.fdb_sequencer.specs.Sequencer.{fresh, next_version, report_fault, reporting, move_fault, moving}
 use Rattle.fdb_sequencer.proofs.Exports.{planned_are_accepted}
@@ -115,8 +116,9 @@ moves-are-last book batch s proxy advance at =
 
 -- what is known of a sequencer at a front
 abbrev pub IsThere : Config → List Entry → Sequencer → Type 0
-IsThere config front core =
-    IsSequencerAt front core × (core.proxies ≡ config.proxies) × (core.resolvers ≡ suc (length config.resolver_splits))
+IsThere config front state =
+    IsSequencerAt front state × (state.proxies ≡ config.proxies)
+    × (state.resolvers ≡ suc (length config.resolver_splits))
 
 -- one that took a report, or was refused, stays there
 pub reported : {T : Type 0} (config : Config) (front : List Entry) (version : ℕ) (old new : Sequencer)
@@ -140,26 +142,26 @@ moved config front move old new (Ok given) answers same there =
     subst (IsThere config front) (sym made.1) (sequencer_moves front old move there.0 made.0, there.1, there.2)
 
 -- a new one is at the front of no entries
-pub starts : (config : Config) (front : List Entry) (core : Sequencer) (proxies resolvers : ℕ) → front ≡ []
-    → core ≡ fresh proxies resolvers 0 → proxies ≡ config.proxies → resolvers ≡ suc (length config.resolver_splits)
-    → IsThere config front core
-starts config front core proxies resolvers none is of_proxies of_resolvers =
-    subst (λ (entries : List Entry). IsThere config entries core) (sym none)
+pub starts : (config : Config) (front : List Entry) (state : Sequencer) (proxies resolvers : ℕ) → front ≡ []
+    → state ≡ fresh proxies resolvers 0 → proxies ≡ config.proxies → resolvers ≡ suc (length config.resolver_splits)
+    → IsThere config front state
+starts config front state proxies resolvers none is of_proxies of_resolvers =
+    subst (λ (entries : List Entry). IsThere config entries state) (sym none)
     (subst (IsThere config []) (sym is) (sequencer_starts proxies resolvers, of_proxies, of_resolvers))
 
 -- The entry of a ticket is appended to the front.
-module _ (front : List Entry) (batch : List Transaction) (core : Sequencer) (ticket : Ticket) (entry : Entry)
+module _ (front : List Entry) (batch : List Transaction) (state : Sequencer) (ticket : Ticket) (entry : Entry)
     (longer : List Entry) (entry_is : entry ≡ entry_of ticket batch) (longer_is : longer ≡ front ++ entry ∷ []) where
   whole : longer ≡ front ++ entry_of ticket batch ∷ []
   whole = longer_is ∙ ap (λ (e : Entry). front ++ e ∷ []) entry_is
 
   -- who accepts the ticket is at the longer front
-  pub accepted-there : (config : Config) (new : Sequencer) → IsThere config front core
-      → accept_fault core ticket ≡ None → new ≡ accepting core ticket → IsThere config longer new
+  pub accepted-there : (config : Config) (new : Sequencer) → IsThere config front state
+      → accept_fault state ticket ≡ None → new ≡ accepting state ticket → IsThere config longer new
   accepted-there config new there none new_is =
       subst (IsThere config longer) (sym new_is)
-      (subst (λ (entries : List Entry). IsThere config entries (accepting core ticket)) (sym whole)
-      (sequencer_goes_on front batch core ticket there.0 none, there.1, there.2))
+      (subst (λ (entries : List Entry). IsThere config entries (accepting state ticket)) (sym whole)
+      (sequencer_goes_on front batch state ticket there.0 none, there.1, there.2))
 
   -- the longer front ends at the ticket's version, and each transaction read below that
   pub read-below-it : (capacity : ℕ) → append_fault capacity front entry ≡ None
@@ -171,15 +173,15 @@ module _ (front : List Entry) (batch : List Transaction) (core : Sequencer) (tic
   )
 
   -- the moves of a planned ticket are the last ones there
-  pub its-moves : (proxy advance : ℕ) → IsSequencerAt front core → ticket ≡ planned core proxy advance
+  pub its-moves : (proxy advance : ℕ) → IsSequencerAt front state → ticket ≡ planned state proxy advance
       → AreLastOf ticket.moves (dated_moves longer)
   its-moves proxy advance at is =
       subst (λ (entries : List Entry). AreLastOf ticket.moves (dated_moves entries)) (sym whole)
       (subst (λ (t : Ticket). AreLastOf t.moves (dated_moves (front ++ entry_of t batch ∷ []))) (sym is)
-      (moves-are-last front batch core proxy advance at))
+      (moves-are-last front batch state proxy advance at))
 
 -- what is planned is accepted
-pub planned-accepted : (core : Sequencer) (ticket : Ticket) (proxy advance : ℕ) → plan_fault core proxy advance ≡ None
-    → ticket ≡ planned core proxy advance → accept_fault core ticket ≡ None
-planned-accepted core ticket proxy advance none is =
-    subst (λ (t : Ticket). accept_fault core t ≡ None) (sym is) (planned_are_accepted core proxy advance none)
+pub planned-accepted : (state : Sequencer) (ticket : Ticket) (proxy advance : ℕ) → plan_fault state proxy advance ≡ None
+    → ticket ≡ planned state proxy advance → accept_fault state ticket ≡ None
+planned-accepted state ticket proxy advance none is =
+    subst (λ (t : Ticket). accept_fault state t ≡ None) (sym is) (planned_are_accepted state proxy advance none)

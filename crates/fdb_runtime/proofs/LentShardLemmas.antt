@@ -37,9 +37,9 @@ use Rattle.fdb_runtime.specs.ShardsAtFronts.{ShardAtFront}
 use Rattle.fdb_runtime.specs.ShardViews.{run_of}
 
 -- the first of what is lent, and the others
-pub lent-first : (kept : List (Bor ShardAtFront)) (first : Bor ShardAtFront) → 1 ≤ length kept
-    → first ≡ get_or kept 0 first
-    → lent_shards kept ≡ first.now ∷ lent_shards (take (length kept - 1) (drop 1 kept))
+pub lent-first : (shards : List (Bor ShardAtFront)) (first : Bor ShardAtFront) → 1 ≤ length shards
+    → first ≡ get_or shards 0 first
+    → lent_shards shards ≡ first.now ∷ lent_shards (take (length shards - 1) (drop 1 shards))
 lent-first [] first some is = absurd (omega arith)
 lent-first (x ∷ xs) first some is =
     let count : length (x ∷ xs) - 1 ≡ length xs = omega arith in
@@ -231,14 +231,14 @@ module _ (run : Map) (range : Range) (version : ℕ) (shards : List ShardAtFront
   held-backward false backward = cc
 
 -- no shards hold no pairs
-pub none-held : (kept : List (Bor ShardAtFront)) → length kept < 1 → (run : Map) (range : Range) (is_reverse : Bool)
-    → pairs_held run range is_reverse (lent_shards kept) ≡ []
+pub none-held : (shards : List (Bor ShardAtFront)) → length shards < 1 → (run : Map) (range : Range) (is_reverse : Bool)
+    → pairs_held run range is_reverse (lent_shards shards) ≡ []
 none-held [] none run range is_reverse = nothing (pairs_in run range is_reverse)
   where
     nothing : (pairs : List (Point × List ℕ)) → filter (λ pair. is_held [] pair.0) pairs ≡ []
     nothing [] = refl
     nothing (pair ∷ pairs) = nothing pairs
-none-held (at ∷ kept) none run range is_reverse = absurd (omega arith)
+none-held (at ∷ shards) none run range is_reverse = absurd (omega arith)
 
 -- shards that hold all of a range hold all of its pairs
 pub all-held : (run : Map) (range whole : Range) (is_reverse : Bool) (shards : List ShardAtFront)

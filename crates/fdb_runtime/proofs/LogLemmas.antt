@@ -25,12 +25,12 @@ use Rattle.fdb_runtime.proofs.TurnLemmas.{same-front, refused-by-role}
 
 -- what is known of a log at a front: it is there unless it has failed
 abbrev pub IsLogThere : Config → List Entry → Log → Type 0
-IsLogThere config front core =
-    (core.log < config.logs) × (core.is_failed ≡ false → IsLogAt config front core.log core)
+IsLogThere config front state =
+    (state.log < config.logs) × (state.is_failed ≡ false → IsLogAt config front state.log state)
 
 -- what the log answers that takes the message
 abbrev pub IsAck : LogAtFront → LogMsgAtFront → LogAck → Type 0
-IsAck at sent ack = ack ≡ record { log = at.core.log; index = sent.message.index }
+IsAck at sent ack = ack ≡ record { log = at.state.log; index = sent.message.index }
 
 module _ (config : Config) (sent : LogMsgAtFront) (is : IsLastMessage config sent)
     (entries : AreEntries (suc (length config.resolver_splits)) 0 sent.front) where
@@ -122,19 +122,19 @@ log-popped {T} config front tag through old new (Ok given) answers same there =
 module _ (old now : LogAtFront) (same : old ≡ now) where
   pub refused-push : (sent there : LogMsgAtFront) (why : Refusal) → sent ≡ there
       → front_fault old.front sent.front ≡ None
-      → Answers (Err why) (push_fault old.core sent.message) (IsAck old sent)
-      → AnswersInTurn (Err why) (front_fault now.front there.front) (push_fault now.core there.message)
+      → Answers (Err why) (push_fault old.state sent.message) (IsAck old sent)
+      → AnswersInTurn (Err why) (front_fault now.front there.front) (push_fault now.state there.message)
       (IsAck now there)
   refused-push sent there why is next answers =
       subst (λ (at : LogAtFront). AnswersInTurn (Err why) (front_fault at.front there.front)
-      (push_fault at.core there.message) (IsAck at there)) same
+      (push_fault at.state there.message) (IsAck at there)) same
       (subst (λ (message : LogMsgAtFront). AnswersInTurn (Err why) (front_fault old.front message.front)
-      (push_fault old.core message.message) (IsAck old message)) is
-      (refused-by-role (front_fault old.front sent.front) (push_fault old.core sent.message) (IsAck old sent) why
+      (push_fault old.state message.message) (IsAck old message)) is
+      (refused-by-role (front_fault old.front sent.front) (push_fault old.state sent.message) (IsAck old sent) why
       (IsAck old sent) next answers))
 
-  pub left-by-push : (new : Log) → ((new ≡ old.core) ⊎ HasFailed old.core new)
-      → ((record { front = old.front; core = new } ≡ now) ⊎ ((old.front ≡ now.front) × HasFailed now.core new))
-  left-by-push new (inl stays) = inl (ap (λ (core : Log). record { front = old.front; core = core }) stays ∙ same)
+  pub left-by-push : (new : Log) → ((new ≡ old.state) ⊎ HasFailed old.state new)
+      → ((record { front = old.front; state = new } ≡ now) ⊎ ((old.front ≡ now.front) × HasFailed now.state new))
+  left-by-push new (inl stays) = inl (ap (λ (state : Log). record { front = old.front; state = state }) stays ∙ same)
   left-by-push new (inr fails) =
-      inr (ap (λ (at : LogAtFront). at.front) same, subst (λ (at : LogAtFront). HasFailed at.core new) same fails)
+      inr (ap (λ (at : LogAtFront). at.front) same, subst (λ (at : LogAtFront). HasFailed at.state new) same fails)

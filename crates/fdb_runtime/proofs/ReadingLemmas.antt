@@ -46,7 +46,7 @@ read-refused (Some transcript) result asked fault P same answers =
 
 -- a shard that is asked at the version of a share refuses as at the read version
 pub shard-fault : (current : Option Transcript) (at : ShardAtFront) (view : ShardView) (own : List Entry)
-    (shared : ℕ × List Entry) (key : Point) → view ≡ record { version = shared.0; front = shared.1; kept = at }
+    (shared : ℕ × List Entry) (key : Point) → view ≡ record { version = shared.0; front = shared.1; at = at }
     → OfOpen {T = ℕ × List Entry} current (Ok shared) (λ transcript. shared ≡ (transcript.read_version, own))
     → IfSome current (λ transcript. (if decided (program transcript.ops) key then None else key_fault view key)
     ≡ (if decided (program transcript.ops) key then None else shards.key_fault at.shard key transcript.read_version))

@@ -25,8 +25,8 @@ use Rattle.fdb_runtime.proofs.TurnLemmas.{same-front, refused-by-role}
 
 -- what is known of a resolver at a front: it is there unless it has failed
 abbrev pub IsThere : List Point → List Entry → Resolver → Type 0
-IsThere splits front core =
-    (core.index < suc (length splits)) × (core.is_failed ≡ false → IsResolverAt splits front core.index core)
+IsThere splits front state =
+    (state.index < suc (length splits)) × (state.is_failed ≡ false → IsResolverAt splits front state.index state)
 
 module _ (splits : List Point) (sent : PartAtFront) (is : IsLastPart splits sent)
     (entries : AreEntries (suc (length splits)) 0 sent.front) where
@@ -97,25 +97,26 @@ stays splits front old new None same fails there =
 
 -- The resolver before the call, as it is within and as who calls sees it.
 module _ (old now : ResolverAtFront) (same : old ≡ now) where
-  -- a part in its turn that the core refuses is refused so
+  -- a part in its turn that the state refuses is refused so
   pub refused-take : (sent there : PartAtFront) (why : Refusal) (P : VerdictsAtFront → Type 0) → sent ≡ there
       → front_fault old.front sent.front ≡ None
-      → Answers (Err why) (part_fault old.core sent.part) (IsAnswer old.core sent.part)
-      → AnswersInTurn (Err why) (front_fault now.front there.front) (part_fault now.core there.part) P
+      → Answers (Err why) (part_fault old.state sent.part) (IsAnswer old.state sent.part)
+      → AnswersInTurn (Err why) (front_fault now.front there.front) (part_fault now.state there.part) P
   refused-take sent there why P is next answers =
       subst (λ (at : ResolverAtFront). AnswersInTurn (Err why) (front_fault at.front there.front)
-      (part_fault at.core there.part) P) same
+      (part_fault at.state there.part) P) same
       (subst (λ (message : PartAtFront). AnswersInTurn (Err why) (front_fault old.front message.front)
-      (part_fault old.core message.part) P) is
-      (refused-by-role (front_fault old.front sent.front) (part_fault old.core sent.part) P why
-      (IsAnswer old.core sent.part) next answers))
+      (part_fault old.state message.part) P) is
+      (refused-by-role (front_fault old.front sent.front) (part_fault old.state sent.part) P why
+      (IsAnswer old.state sent.part) next answers))
 
-  pub left-by-take : (new : Resolver) → ((new ≡ old.core) ⊎ HasFailed old.core new)
-      → ((record { front = old.front; core = new } ≡ now) ⊎ ((old.front ≡ now.front) × HasFailed now.core new))
-  left-by-take new (inl stays) = inl (ap (λ (core : Resolver). record { front = old.front; core = core }) stays ∙ same)
+  pub left-by-take : (new : Resolver) → ((new ≡ old.state) ⊎ HasFailed old.state new)
+      → ((record { front = old.front; state = new } ≡ now) ⊎ ((old.front ≡ now.front) × HasFailed now.state new))
+  left-by-take new (inl stays) =
+      inl (ap (λ (state : Resolver). record { front = old.front; state = state }) stays ∙ same)
   left-by-take new (inr fails) = inr (
     ap (λ (at : ResolverAtFront). at.front) same,
-    subst (λ (at : ResolverAtFront). HasFailed at.core new) same fails,
+    subst (λ (at : ResolverAtFront). HasFailed at.state new) same fails,
   )
 
 -- one that isn't refused a part works, and the part is its own

@@ -69,10 +69,10 @@ fits shard peek none = by_tests (peek.tag == shard.tag) shard.is_failed refl ref
     by_tests true true is fails none = cc
     by_tests false failed is also none = cc
 
--- what isn't refused at the front isn't refused by the core
-core-fault : (at : ShardAtFront) (given : PeekAtFront) → peek_fault at given ≡ None
+-- what isn't refused at the front isn't refused by the state
+state-fault : (at : ShardAtFront) (given : PeekAtFront) → peek_fault at given ≡ None
     → apply_fault at.shard given.peek ≡ None
-core-fault at given none = by_test (nat_lt (length given.front) (length at.front)) none
+state-fault at given none = by_test (nat_lt (length given.front) (length at.front)) none
   where
     by_test : (shorter : Bool) → (if shorter then Some Stale else apply_fault at.shard given.peek) ≡ None
         → apply_fault at.shard given.peek ≡ None
@@ -117,12 +117,12 @@ takes config at own given sent is also there gave entries answers =
     }
 
 module _ (config : Config) (at : ShardAtFront) (given : PeekAtFront) (takes : Takes config at given) where
-  pub core-takes : apply_fault at.shard given.peek ≡ None
-  core-takes = core-fault at given takes.none
+  pub state-takes : apply_fault at.shard given.peek ≡ None
+  state-takes = state-fault at given takes.none
 
   applies : Applies config at.front given.front at.shard given.peek
   applies =
-      let mine = fits at.shard given.peek core-takes in
+      let mine = fits at.shard given.peek state-takes in
       let is = takes.is in
       let same : given.peek ≡ peek_of is.log at.shard.tag at.shard.version is.limit =
       is.gives ∙ ap₂ (λ (tag after : ℕ). peek_of is.log tag after is.limit) mine.0 mine.2 in

@@ -35,12 +35,12 @@ one-run config resolvers version own other of_own of_other shorter longer within
     (entries-linked resolvers 0 own of_own) version within))
     (cases_lt (length own) (length other))
 
-module _ (config : Config) (view : ShardView) (there : IsThere config view.kept)
-    (one : HasTheRunOf config view.version view.kept.front view.front) where
+module _ (config : Config) (view : ShardView) (there : IsThere config view.at)
+    (one : HasTheRunOf config view.version view.at.front view.front) where
   -- at a key that it holds, a shard that serves the version has what the reader's front leaves there
-  pub value-is : view.kept.shard.is_failed ≡ false → view.kept.shard.floor ≤ view.version
-      → view.version ≤ view.kept.shard.version → (x : Point) → in_range view.kept.shard.range x ≡ true
-      → value_at view.kept.shard view.version x ≡ get (run_map config view) x
+  pub value-is : view.at.shard.is_failed ≡ false → view.at.shard.floor ≤ view.version
+      → view.version ≤ view.at.shard.version → (x : Point) → in_range view.at.shard.range x ≡ true
+      → value_at view.at.shard view.version x ≡ get (run_map config view) x
   value-is works from until x inside =
       let at = there.1 works in
       at.serves view.version x from until (ap (λ (keys : Range). in_range keys x) (sym at.range) ∙ inside)
@@ -48,33 +48,33 @@ module _ (config : Config) (view : ShardView) (there : IsThere config view.kept)
 
   -- the first pairs of what it has are those of the serial map
   pub first-are : (range : Range) (limit : ℕ) (is_reverse : Bool) (found : Page) → range_fault view range ≡ None
-      → shards.IsPage view.kept.shard range view.version limit is_reverse found
+      → shards.IsPage view.at.shard range view.version limit is_reverse found
       → (found.pairs ≡ first_of limit (pairs_in (run_map config view) range is_reverse))
       × (found.more ≡ nat_lt (length found.pairs) (length (pairs_in (run_map config view) range is_reverse)))
   first-are range limit is_reverse found none is =
-      let shard = view.kept.shard in
+      let shard = view.at.shard in
       let may = served shard (is_within range shard.range) view.version none in
       is (run_map config view) (λ x inside. sym (value-is may.1 may.2 may.3 x
       ((within-points range shard.range).0 may.0 x inside)))
 
   -- so a page of it is one of the serial map
   pub page-is : (range : Range) (limit : ℕ) (is_reverse : Bool) (found : Page) → range_fault view range ≡ None
-      → shards.IsPage view.kept.shard range view.version limit is_reverse found
+      → shards.IsPage view.at.shard range view.version limit is_reverse found
       → IsPage (run_map config view) range limit is_reverse found
   page-is range limit is_reverse found none is =
       let first = first-are range limit is_reverse found none is in
       page-first (run_map config view) range limit is_reverse found first.0 first.1
 
 -- Of the shard's parts what is said of the whole view: a range is refused alike,
-pub fault-is : (at : ShardAtFront) (own view : ShardView) (range : Range) → at ≡ own.kept → own ≡ view
+pub fault-is : (at : ShardAtFront) (own view : ShardView) (range : Range) → at ≡ own.at → own ≡ view
     → shards.range_fault at.shard range own.version ≡ range_fault view range
 fault-is at own view range is also =
     ap (λ (it : ShardAtFront). shards.range_fault it.shard range own.version) is
     ∙ ap (λ (it : ShardView). range_fault it range) also
 
 -- and its pairs are given alike
-module _ (config : Config) (at : ShardAtFront) (own view : ShardView) (is : at ≡ own.kept) (also : own ≡ view)
-    (there : IsThere config at) (one : HasTheRunOf config own.version own.kept.front own.front) where
+module _ (config : Config) (at : ShardAtFront) (own view : ShardView) (is : at ≡ own.at) (also : own ≡ view)
+    (there : IsThere config at) (one : HasTheRunOf config own.version own.at.front own.front) where
   pub gives-page : (range : Range) (limit : ℕ) (is_reverse : Bool) (found : Page)
       → Answers {T = Page} (Ok found) (shards.range_fault at.shard range own.version)
       (shards.IsPage at.shard range own.version limit is_reverse)

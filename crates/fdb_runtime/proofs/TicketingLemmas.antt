@@ -23,7 +23,8 @@ use Rattle.fdb_book.specs.Fronts.{IsPrefix}
 use Rattle.fdb_sequencer.specs.declared.ticket.Ticket.{Ticket}
 use Rattle.fdb_sequencer.specs.Equality.{dated_eq}
 use Rattle.fdb_sequencer.proofs.Exports.{dated_eq_decides}
-use Rattle.fdb_sequencer.specs.Moves.{Dated, dated}
+use Rattle.fdb_sequencer.specs.declared.dated.Dated.{Dated}
+use Rattle.fdb_sequencer.specs.Moves.{dated}
 use Rattle.fdb_proxy.specs.declared.config.Config.{Config}
 use Rattle.fdb_proxy.specs.CommitProxies.{CommitProxy, IsTicketFor, is_sealed, learn_fault}
 use Rattle.fdb_proxy.specs.CommitProxies.{HasLearntTicket, HasFailed}
@@ -96,7 +97,7 @@ module _ (config : Config) (own front : List Entry) (proxy : CommitProxy) (ticke
   learns : learn_fault proxy ticket ≡ (if is_sealed proxy.stage then None else Some WrongState)
   learns = (proxies_learn_their_tickets config own between proxy its at entries-there number moves-there).1
 
-  -- the core refuses it only as it does where no batch is sealed, or for memory
+  -- the state refuses it only as it does where no batch is sealed, or for memory
   pub refused-as : (T : Type 0) (why : Refusal) (P : T → Type 0)
       → Answers {T = T} (Err why) (learn_fault proxy ticket) P
       → AnswersTicket {T = T} (Err why) own front proxy ticket
@@ -138,7 +139,7 @@ module _ (config : Config) (own front : List Entry) (proxy : CommitProxy) (ticke
       ((proxies_learn_their_tickets config own between proxy its at entries-there number moves-there).2 new
       (its-learnt new learnt)).0
 
--- one whose ticket the core refused stays there, or has failed
+-- one whose ticket the state refused stays there, or has failed
 pub refused-there : (config : Config) (own : List Entry) (old new : CommitProxy) (ticket : Ticket)
     → IsThere config own old → (IsSome (learn_fault old ticket) → new ≡ old)
     → (IsNone (learn_fault old ticket) → HasFailed old ticket new) → IsThere config own new

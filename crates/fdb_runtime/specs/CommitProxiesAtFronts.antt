@@ -1,4 +1,4 @@
--- Commit proxies of running threads: each is its core with the front of the book through its last ticket's entry.
+-- Commit proxies of running threads: each is its state with the front of the book through its last ticket's entry.
 use Rattle.std.specs.Prelude.{◌≡◌, ◌==◌, ℕ, false, List, length, Option, Some, slice_get, if◌then◌else◌, All}
 use Rattle.fdb_keys.specs.declared.refusal.Refusal.{Refusal}
 use Rattle.fdb_keys.specs.declared.refusal.Refusal.TheVariants.{Stale}
@@ -8,14 +8,15 @@ use Rattle.fdb_resolver.specs.declared.part.Part.{Part}
 use Rattle.fdb_log.specs.declared.message.LogMsg.{LogMsg}
 use Rattle.fdb_proxy.specs.declared.config.Config.{Config}
 use Rattle.fdb_proxy.specs.declared.outcome.Outcome.{Outcome}
-use Rattle.fdb_proxy.specs.CommitProxies.{CommitProxy, ProxyWithRoom, verdict_fault}
+use Rattle.fdb_proxy.specs.CommitProxies as proxies
+use Rattle.fdb_proxy.specs.CommitProxies.{CommitProxy, ProxyWithRoom}
 use Rattle.fdb_roles.specs.ProxyStages.{IsCommitProxyAt}
 use Rattle.fdb_runtime.specs.Messages.{IsLastPart, IsLastMessage, VerdictsAtFront}
 use Rattle.fdb_runtime.specs.Receipts.{IsOutcome}
 
 pub record CommitProxyAtFront : Type 0 where
   pub front : List Entry
-  pub core : ProxyWithRoom
+  pub state : ProxyWithRoom
 
 -- one that works is where its front leaves it
 abbrev pub IsThere : Config → List Entry → CommitProxy → Type 0
@@ -27,9 +28,9 @@ AreLastParts config front parts =
     All (λ (part : Part). IsLastPart config.resolver_splits (record { front = front; part = part })) parts
 
 -- why verdicts that come with a front aren't taken: it is another one, or the batch doesn't wait for them
-abbrev pub hear_fault : List Entry → CommitProxy → VerdictsAtFront → Option Refusal
-hear_fault own proxy sent =
-    if length sent.front == length own then verdict_fault proxy sent.verdicts else Some Stale
+abbrev pub verdict_fault : List Entry → CommitProxy → VerdictsAtFront → Option Refusal
+verdict_fault own proxy sent =
+    if length sent.front == length own then proxies.verdict_fault proxy sent.verdicts else Some Stale
 
 -- each is its log's message of the front's last entry
 abbrev pub AreLastMessages : Config → List Entry → List LogMsg → Type 0

@@ -23,7 +23,7 @@ pub record LentShards : Type 0 where
 
 -- what is lent
 abbrev pub lent_shards : List (Bor ShardAtFront) → List ShardAtFront
-lent_shards kept = map (λ (at : Bor ShardAtFront). at.now) kept
+lent_shards shards = map (λ (at : Bor ShardAtFront). at.now) shards
 
 -- one of the shards holds the point
 abbrev pub is_held : List ShardAtFront → Point → Bool

@@ -72,20 +72,20 @@ with_current it current = record it { current = current }
 abbrev pub seeing : Session → List Entry → Session
 seeing it front = record it { front = longer it.front front }
 
--- it has heard that its transaction is committed
+-- it is told that its transaction is committed
 abbrev pub settling : Session → OutcomeAtFront → Session
 settling it told = record it {
   front = longer it.front told.front;
   mark = max it.mark (last_version told.front);
 }
 
--- What a session hears of its transaction: that it is committed, with the longer front and its spot there, or why it
--- isn't, where it is told of it. Else, or where memory runs out, that isn't known.
-abbrev pub Hears : Session → OutcomeAtFront → Transcript → Result (List Entry × Spot) Refusal → Session → Type 0
-Hears it told transcript (Ok given) new =
+-- A session takes what became of its transaction: that it is committed, with the longer front and its spot there, or
+-- why it isn't, where it is told of it. Else, or where memory runs out, that isn't known.
+abbrev pub TakesOutcome : Session → OutcomeAtFront → Transcript → Result (List Entry × Spot) Refusal → Session → Type 0
+TakesOutcome it told transcript (Ok given) new =
     IsToldOf told transcript × (settle_fault told.outcome ≡ None) × (given.0 ≡ longer it.front told.front)
     × (given.1 ≡ spot_told told) × (new ≡ settling it told)
-Hears it told transcript (Err why) new =
+TakesOutcome it told transcript (Err why) new =
     (IsToldOf told transcript × (settle_fault told.outcome ≡ Some why) × (new ≡ seeing it told.front))
     ⊎ ((why ≡ CommitUnknownResult) × (new ≡ it))
 
@@ -93,6 +93,6 @@ Hears it told transcript (Err why) new =
 abbrev pub Settles
     : Session → OutcomeAtFront → Transcript → Result ReceiptAtFront (Refused Transcript) → Session → Type 0
 Settles it told transcript (Ok receipt) new =
-    (receipt.transcript ≡ transcript) × Hears it told transcript (Ok (receipt.front, receipt.spot)) new
+    (receipt.transcript ≡ transcript) × TakesOutcome it told transcript (Ok (receipt.front, receipt.spot)) new
 Settles it told transcript (Err refused) new =
-    (refused.back ≡ transcript) × Hears it told transcript (Err refused.why) new
+    (refused.back ≡ transcript) × TakesOutcome it told transcript (Err refused.why) new

@@ -22,7 +22,7 @@ use Rattle.fdb_runtime.specs.ShardsAtFronts.{ShardAtFront}
 pub record ShardView : Type 0 where
   pub version : ℕ
   pub front : List Entry
-  pub kept : ShardAtFront
+  pub at : ShardAtFront
 
 -- the serial map of a front at a version
 abbrev pub run_of : Config → ℕ → List Entry → Map
@@ -39,10 +39,10 @@ HasTheRunOf config version own other =
 
 -- why a key or a range is not read
 abbrev pub key_fault : ShardView → Point → Option Refusal
-key_fault view key = shards.key_fault view.kept.shard key view.version
+key_fault view key = shards.key_fault view.at.shard key view.version
 
 abbrev pub range_fault : ShardView → Range → Option Refusal
-range_fault view range = shards.range_fault view.kept.shard range view.version
+range_fault view range = shards.range_fault view.at.shard range view.version
 
 -- Who isn't refused asks for what a shard holds that works, at a version that it serves.
 pub served : (shard : Shard) (is_held : Bool) (version : ℕ) → read_fault shard is_held version ≡ None
@@ -67,7 +67,7 @@ served shard is_held version none =
 pub part_served : (view : ShardView) (part range : Range) → IsPartOf part range → range_fault view range ≡ None
     → range_fault view part ≡ None
 part_served view part range inside none =
-    let shard = view.kept.shard in
+    let shard = view.at.shard in
     let whole = (served shard (is_within range shard.range) view.version none).0 in
     let within : is_within part shard.range ≡ true =
     (within-points part shard.range).1 (λ x there. (within-points range shard.range).0 whole x (inside x there)) in

@@ -1,4 +1,4 @@
--- Shards of running threads: each is its core with the front of the book that it has applied.
+-- Shards of running threads: each is its state with the front of the book that it has applied.
 use Rattle.std.specs.Prelude.{◌≡◌, ◌+◌, ◌<◌, suc, nat_lt, false, List, length, take, Option, Some, None, if◌then◌else◌}
 use Rattle.fdb_keys.specs.declared.refusal.Refusal.{Refusal}
 use Rattle.fdb_keys.specs.declared.refusal.Refusal.TheVariants.{Stale}
@@ -22,7 +22,7 @@ IsThere config at =
 abbrev pub shorter_fault : List Entry → List Entry → Option Refusal
 shorter_fault own theirs = if nat_lt (length theirs) (length own) then Some Stale else None
 
--- why it refuses a peek: the log that gave it took less than the shard applied, or else the core refuses it
+-- why it refuses a peek: the log that gave it took less than the shard applied, or else the state refuses it
 abbrev pub peek_fault : ShardAtFront → PeekAtFront → Option Refusal
 peek_fault at given =
     if nat_lt (length given.front) (length at.front) then Some Stale else apply_fault at.shard given.peek

@@ -9,7 +9,7 @@ use Rattle.fdb_txn.specs.declared.entry.Entry.{Entry}
 use Rattle.fdb_txn.specs.book.Transactions.{Transaction}
 use Rattle.fdb_sequencer.specs.declared.ticket.Ticket.{Ticket}
 use Rattle.fdb_sequencer.specs.Equality.{dated_eq}
-use Rattle.fdb_sequencer.specs.Moves.{Dated}
+use Rattle.fdb_sequencer.specs.declared.dated.Dated.{Dated}
 use Rattle.fdb_proxy.specs.CommitProxies.{CommitProxy, is_sealed, learn_fault, HasLearntTicket, HasFailed}
 use Rattle.fdb_roles.specs.ProxyLaws.{IsLastEntry}
 use Rattle.fdb_roles.specs.Entries.{dated_moves}
@@ -61,8 +61,8 @@ AnswersTicket (Err why) own front proxy ticket = ⊥
 abbrev pub LeftByTicket : {T : Type 0} → Result T Refusal → CommitProxyAtFront → Ticket → List Entry
     → CommitProxyAtFront → Type 0
 LeftByTicket (Ok given) old ticket front new =
-    (new.front ≡ front) × HasLearntTicket old.core.proxy ticket new.core.proxy
+    (new.front ≡ front) × HasLearntTicket old.state.proxy ticket new.state.proxy
 LeftByTicket (Err NoMemory) old ticket front new =
-    (new.front ≡ old.front) × HasFailed old.core.proxy ticket new.core.proxy
+    (new.front ≡ old.front) × HasFailed old.state.proxy ticket new.state.proxy
 LeftByTicket (Err why) old ticket front new =
-    (new.front ≡ old.front) × (new.core.proxy ≡ old.core.proxy)
+    (new.front ≡ old.front) × (new.state.proxy ≡ old.state.proxy)

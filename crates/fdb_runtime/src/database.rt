@@ -225,8 +225,8 @@ fn record_held<B: ClusterName>(
     range: &KeyRange,
     held: &[MutexGuard<'_, ShardState<B>>],
 ) -> Result<Record<B>, Refusal> {
-    let kept = lent_of(alloc, held)?;
+    let shards = lent_of(alloc, held)?;
     let reader = Reader::new(alloc, granted.committed, &granted.front);
-    let lent = LentShards::new(reader, range, kept.as_slice())?;
+    let lent = LentShards::new(reader, range, shards.as_slice())?;
     Record::of(&lent)
 }

@@ -4,13 +4,13 @@
 
 mod database;
 mod gate;
+mod known_front;
 mod making;
 mod messages;
 mod name;
 mod receipt;
 mod record;
 mod roles;
-mod sealed_front;
 mod session;
 mod session_state;
 mod shared;

@@ -3,7 +3,7 @@
 ghost use Rattle.std.specs.Prelude.{◌≡◌, ◌⊎◌, Ok, Err, IfOk, IfErr};
 ghost use Rattle.fdb_keys.specs.declared.refusal.Refusal.TheVariants.{NoMemory};
 
-use fdb_keys::Refusal;
+use fdb_keys::{Refusal, Refused};
 
 /// The value beside what was made after it, if that could be made.
 pub(crate) fn beside<S: Drop, T: Drop>(
@@ -39,4 +39,11 @@ pub(crate) fn add<T: Drop>(items: &mut Vec<T>, made: Result<T, Refusal>) -> Resu
 {
     items.push(made?)?;
     Ok(())
+}
+
+/// Why it is refused. What is handed back is dropped.
+pub(crate) fn why_of<T: Drop>(refused: Refused<T>) -> Refusal
+    ensures { result ≡ refused.why }
+{
+    refused.why
 }

@@ -4,8 +4,8 @@ ghost use Rattle.fdb_roles.specs.Spots.{spot_version};
 ghost use Rattle.fdb_txn.specs.book.History.{IsBook, AreEntries};
 ghost use Rattle.fdb_runtime.specs.Receipts.{IsReceipt};
 
+use crate::known_front::KnownFront;
 use crate::name::ClusterName;
-use crate::sealed_front::SealedFront;
 use fdb_book::Front;
 use fdb_client::Transcript;
 use fdb_roles::Placed;
@@ -16,7 +16,7 @@ use std::marker::Model;
 /// front of the book that shows it there.
 #[derive(Drop)]
 pub struct Receipt<B: ClusterName> {
-    front: SealedFront<B>,
+    front: KnownFront<B>,
     spot: Spot,
     transcript: Transcript,
 }
@@ -41,7 +41,7 @@ impl<B: ClusterName> Model for Receipt<B> {
 
 impl<B: ClusterName> Receipt<B> {
     /// The receipt of a transaction that stands at the spot. It takes no memory.
-    pub(crate) fn new(front: SealedFront<B>, spot: Spot, transcript: Transcript) -> Self
+    pub(crate) fn new(front: KnownFront<B>, spot: Spot, transcript: Transcript) -> Self
         requires { IsReceipt B.config.resolver_splits
             (record { front = front; spot = spot; transcript = transcript }) }
         ensures { result ≡ record { front = front; spot = spot; transcript = transcript } }
@@ -59,13 +59,12 @@ impl<B: ClusterName> Receipt<B> {
         ensures book { IsBook (suc (length B.config.resolver_splits)) result.now }
         ensures entries { AreEntries (suc (length B.config.resolver_splits)) 0 result.now }
     {
-        let front = self.front.front();
-        front.len();
-        front
+        self.front.know_book();
+        self.front.front()
     }
 
     // The same with what is known of its entries.
-    pub(crate) fn sealed_front(&self) -> &SealedFront<B>
+    pub(crate) fn known_front(&self) -> &KnownFront<B>
         ensures value { result.now ≡ self.now.front }
         ensures receipt { IsReceipt B.config.resolver_splits self.now }
     {

@@ -6,9 +6,9 @@ ghost use Rattle.fdb_txn.specs.book.History.{IsBook, AreEntries};
 ghost use Rattle.fdb_runtime.specs.Records.{every_key, is_end_of_keys, is_every_key, record_fault};
 ghost use Rattle.fdb_runtime.specs.ShardViews.{run_of};
 
+use crate::known_front::KnownFront;
 use crate::name::ClusterName;
 use crate::roles::shard::lent_shards::LentShards;
-use crate::sealed_front::SealedFront;
 use bytes::Bytes;
 use fdb_book::Front;
 use fdb_client::Snapshot;
@@ -44,7 +44,7 @@ fn is_every_key(range: &KeyRange) -> bool
 /// What a database holds at a version: a front of its book that reaches the version, and all its pairs there.
 #[derive(Drop)]
 pub struct Record<B: ClusterName> {
-    front: SealedFront<B>,
+    front: KnownFront<B>,
     committed: u64,
     pairs: Items<(Key, Bytes)>,
 }
@@ -89,9 +89,8 @@ impl<B: ClusterName> Record<B> {
         ensures book { IsBook (suc (length B.config.resolver_splits)) result.now }
         ensures entries { AreEntries (suc (length B.config.resolver_splits)) 0 result.now }
     {
-        let front = self.front.front();
-        front.len();
-        front
+        self.front.know_book();
+        self.front.front()
     }
 
     /// The version, which the front reaches. It takes no memory, and O(1) time.

@@ -13,6 +13,7 @@ ghost use Rattle.fdb_runtime.specs.Commits.{CommitAnswers};
 ghost use Rattle.fdb_runtime.specs.Reading.{HasRead};
 ghost use Rattle.fdb_runtime.specs.Sessions.{learning, with_current};
 
+use crate::making::why_of;
 use crate::messages::grant_message::GrantMessage;
 use crate::name::ClusterName;
 use crate::receipt::Receipt;
@@ -107,7 +108,7 @@ impl<B: ClusterName> Session<B> {
             reply: self.slots.grants()?,
         };
         if let Err(refused) = inbox.put(rt, request) {
-            return Err(refused.why);
+            return Err(why_of(refused));
         }
         match self.slots.next_grant(rt) {
             Some(GrantReply::Granted(granted)) => Ok(granted),
@@ -189,8 +190,8 @@ impl<B: ClusterName> Session<B> {
         let Some(shard) = self.shared.shard(self.shared.tag_of(key)) else {
             return Err(Refusal::Failed);
         };
-        let kept = shard.at_version(rt, version)?;
-        self.state.get_at(&kept.at, key, is_snapshot)
+        let held = shard.at_version(rt, version)?;
+        self.state.get_at(&held.at, key, is_snapshot)
     }
 
     /// The pairs of the range after the open transaction's own writes, the first `limit` of them in key order, from the
@@ -222,9 +223,8 @@ impl<B: ClusterName> Session<B> {
             return Err(Refusal::NoTransaction);
         };
         let held = hold_met(rt, alloc, self.shared.shards_from(range), version, range)?;
-        let lent = lent_of(alloc, held.as_slice())?;
-        self.state
-            .get_range_at(alloc, lent.as_slice(), range, limit, reverse, is_snapshot)
+        let shards = lent_of(alloc, held.as_slice())?;
+        self.state.get_range_at(alloc, shards.as_slice(), range, limit, reverse, is_snapshot)
     }
 
     /// Commits the open transaction, and gives its receipt, after which none is open. What wrote nothing is committed
@@ -280,7 +280,10 @@ impl<B: ClusterName> Session<B> {
                 let told = self.ask_commit(rt, CommitRequest { sealed, reply });
                 Ok((submitted, told))
             }
-            Err(transcript) => Err(transcript),
+            Err(transcript) => {
+                drop(sealed);
+                Err(transcript)
+            }
         }
     }
 
@@ -292,7 +295,7 @@ impl<B: ClusterName> Session<B> {
         }
         let inbox = &inboxes[self.number as usize % inboxes.len()];
         if let Err(refused) = inbox.put(rt, request) {
-            return CommitReply::Refused(refused.why);
+            return CommitReply::Refused(why_of(refused));
         }
         self.slots
             .next_outcome(rt)

@@ -17,10 +17,10 @@ ghost use Rattle.fdb_client.specs.declared.program.Reply.TheVariants as answer;
 ghost use Rattle.fdb_runtime.specs.Sessions.{longer, begin_fault, beginning, learning, with_current};
 ghost use Rattle.fdb_roles.specs.Sessions.{OfOpen};
 
+use crate::known_front::KnownFront;
 use crate::messages::grant_message::GrantMessage;
 use crate::name::ClusterName;
 use crate::receipt::Receipt;
-use crate::sealed_front::SealedFront;
 use bytes::Bytes;
 use fdb_book::Book;
 use fdb_client::{Snapshot, Txn};
@@ -29,6 +29,7 @@ use fdb_mutations::Mutation;
 use fdb_txn::TxnId;
 use std::alloc::Global;
 use std::marker::Model;
+use std::mem;
 
 mod ending;
 mod reading;
@@ -37,17 +38,17 @@ pub(crate) mod submitted;
 
 // The longer of two fronts, once more. Refused only as `NoMemory`.
 fn share_longer<B: ClusterName>(
-    own: &SealedFront<B>,
-    theirs: &SealedFront<B>,
-) -> Result<SealedFront<B>, Refusal>
+    own: &KnownFront<B>,
+    theirs: &KnownFront<B>,
+) -> Result<KnownFront<B>, Refusal>
     ensures answers { Answers result None (λ front. front ≡ longer own.now theirs.now) }
     ensures begins { IfOk result (λ front. IsPrefix own.now front × IsPrefix theirs.now front) }
     ensures reaches { IfOk result (λ front. (last_version own.now ≤ last_version front)
         × (last_version theirs.now ≤ last_version front)) }
 {
-    let _ = own.front();
-    let _ = theirs.front();
-    own.agree(theirs);
+    own.know_entries();
+    theirs.know_entries();
+    own.know_one_book(theirs);
     if own.len() < theirs.len() {
         theirs.share()
     } else {
@@ -61,7 +62,7 @@ fn share_longer<B: ClusterName>(
 pub(crate) struct SessionState<B: ClusterName> {
     number: u32,
     next_number: u64,
-    front: SealedFront<B>,
+    front: KnownFront<B>,
     mark: u64,
     current: Option<Txn>,
 }
@@ -94,7 +95,7 @@ impl<B: ClusterName> SessionState<B> {
         ensures { Answers result None (λ it. it
             ≡ record { number = number; next_number = 0; front = []; mark = 0; current = None }) }
     {
-        let front = SealedFront::empty(alloc, book)?;
+        let front = KnownFront::empty(alloc, book)?;
         Ok(SessionState {
             number,
             next_number: 0,
@@ -126,7 +127,7 @@ impl<B: ClusterName> SessionState<B> {
         let txn = Txn::begin(alloc, id, read_version);
         self.front = front;
         self.next_number += 1;
-        self.current = Some(txn);
+        drop(mem::replace(&mut self.current, Some(txn)));
         Ok(read_version)
     }
 
@@ -148,7 +149,7 @@ impl<B: ClusterName> SessionState<B> {
     }
 
     /// What the session has seen of the book. It takes no memory.
-    pub(crate) fn front(&self) -> &SealedFront<B>
+    pub(crate) fn front(&self) -> &KnownFront<B>
         ensures { result.now ≡ self.now.front }
     {
         &self.front
@@ -203,8 +204,8 @@ impl<B: ClusterName> SessionState<B> {
         ensures begins { OnOk result (IsPrefix self.old.front self.new.front) }
         ensures refused { OnErr result (self.new ≡ self.old) }
     {
-        let front = share_longer(&self.front, receipt.sealed_front())?;
-        let _ = front.front();
+        let front = share_longer(&self.front, receipt.known_front())?;
+        front.know_entries();
         let version = receipt.version();
         self.front = front;
         self.mark = u64::max(self.mark, version);

@@ -8,14 +8,12 @@ use crate::making::both;
 use crate::messages::grant_message::GrantMessage;
 use crate::name::ClusterName;
 use crate::roles::log::LogAt;
-use crate::roles::sequencer::SequencerAt;
+use crate::roles::sequencer::{Issued, SequencerAt};
 use crate::roles::shard::ShardAt;
-use crate::sealed_front::SealedFront;
 use crate::threads::request::{BeginRequest, CommitRequest};
 use fdb_book::Book;
 use fdb_keys::{Key, KeyRange, Refusal};
 use fdb_proxy::Config;
-use fdb_sequencer::Ticket;
 use fdb_storage::ShardMap;
 use fdb_txn::{Batch, Move};
 use inbox::SharedInbox;
@@ -80,10 +78,13 @@ impl<B: ClusterName> Shared<B> {
         ensures { Answers result None (λ _. ⊤) }
     {
         let sequencer = SequencerAt::new(alloc, &book, config.proxies, resolvers);
-        let kept = make_logs_and_shards(alloc, &book, config, tags);
+        let logs_and_shards = make_logs_and_shards(alloc, &book, config, tags);
         let inboxes = make_all_inboxes(alloc, config.proxies);
-        let (sequencer, (kept, (commits, begins))) = both(sequencer, both(kept, inboxes))?;
-        let (shard_map, logs, shards) = kept;
+        let (sequencer, (logs_and_shards, (commits, begins))) = both(
+            sequencer,
+            both(logs_and_shards, inboxes),
+        )?;
+        let (shard_map, logs, shards) = logs_and_shards;
         Ok(Shared {
             alloc,
             book,
@@ -116,7 +117,7 @@ impl<B: ClusterName> Shared<B> {
         rt: &R,
         proxy: u32,
         batch: Batch,
-    ) -> Result<(Ticket, SealedFront<B>), Refusal> {
+    ) -> Result<Issued<B>, Refusal> {
         self.sequencer
             .lock(rt)
             .issue(self.alloc, &self.book, proxy, self.advance, batch)
@@ -142,8 +143,7 @@ impl<B: ClusterName> Shared<B> {
 
     /// The greatest version that was reported, with a front that reaches it. Refused only as `NoMemory`.
     pub(crate) fn granted<R: Wait>(&self, rt: &R) -> Result<GrantMessage<B>, Refusal> {
-        let (committed, front) = self.sequencer.lock(rt).granted()?;
-        Ok(GrantMessage { front, committed })
+        self.sequencer.lock(rt).granted()
     }
 
     /// The log with the number, if there is one.

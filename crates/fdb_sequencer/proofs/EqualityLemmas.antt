@@ -6,15 +6,16 @@ use Rattle.std.proofs.lemmas.Bool.Decides.{Decides-and, Decides-eqb}
 use Rattle.fdb_keys.proofs.Exports.{items_eq_decides}
 use Rattle.fdb_txn.specs.Equality.{move_eq}
 use Rattle.fdb_txn.proofs.Exports.{move_eq_decides}
-use Rattle.fdb_sequencer.specs.Moves.{Dated}
+use Rattle.fdb_sequencer.specs.declared.dated.Dated.{Dated}
 use Rattle.fdb_sequencer.specs.Equality.{dated_eq, ticket_eq}
 use Rattle.fdb_sequencer.specs.declared.ticket.Ticket.{Ticket}
 
 pub dated_eq_decides : (a b : Dated) → Decides (dated_eq a b) (a ≡ b)
 dated_eq_decides a b =
-    let parts = Decides-and _ _ (Decides-eqb a.0 b.0) (items_eq_decides move_eq move_eq_decides a.1 b.1) in (
-      λ equal. let same = parts.0 equal in λ i. (same.0 i, same.1 i),
-      λ same. parts.1 (ap (λ (of : Dated). of.0) same, ap (λ (of : Dated). of.1) same),
+    let parts = Decides-and _ _ (Decides-eqb a.version b.version)
+    (items_eq_decides move_eq move_eq_decides a.moves b.moves) in (
+      λ equal. let same = parts.0 equal in λ i. record { version = same.0 i; moves = same.1 i },
+      λ same. parts.1 (ap (λ (one : Dated). one.version) same, ap (λ (one : Dated). one.moves) same),
     )
 
 pub ticket_eq_decides : (a b : Ticket) → Decides (ticket_eq a b) (a ≡ b)

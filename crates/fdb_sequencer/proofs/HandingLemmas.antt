@@ -6,10 +6,11 @@ use Rattle.std.specs.Prelude.{flat_map}
 use Rattle.std.specs.List.{AllByRecursion}
 use Rattle.std.proofs.lemmas.Bool.{cases_Bool, eqb-true, eqb-false}
 use Rattle.std.proofs.lemmas.List.{append-nil, append_assoc, length-map, length-set, length-replicate}
+use Rattle.fdb_keys.proofs.Exports.{all-append}
 use Rattle.fdb_txn.specs.declared.entry.Move.{Move}
-use Rattle.fdb_txn.proofs.Exports.{all-append}
 use Rattle.fdb_sequencer.specs.declared.ticket.Ticket.{Ticket}
-use Rattle.fdb_sequencer.specs.Moves.{Dated, dated}
+use Rattle.fdb_sequencer.specs.declared.dated.Dated.{Dated}
+use Rattle.fdb_sequencer.specs.Moves.{dated}
 use Rattle.fdb_sequencer.specs.Sequencer.{Sequencer, fresh, unlearnt_by, next_version, planned, accept_fault, accepting}
 use Rattle.fdb_sequencer.specs.Sequencer.{move_fault, moving}
 use Rattle.fdb_sequencer.specs.TicketLaws.{Act, Moves, Takes, after, AreTaken, tickets_in, moves_made, taking_effect}
@@ -129,7 +130,7 @@ each_proxy_gets_each_move_once s acts proxy count within taken =
     gets-each s acts proxy (omega (arith, count, within)) taken
 
 -- what holds of a version with its moves holds of them as a list, which is empty where it moves nothing
-all-dated : (P : Dated → Type 0) (version : ℕ) (moves : List Move) → P (version, moves)
+all-dated : (P : Dated → Type 0) (version : ℕ) (moves : List Move) → P (record { version = version; moves = moves })
     → AllByRecursion P (dated version moves)
 all-dated P version [] holds = tt
 all-dated P version (move ∷ moves) holds = (holds, tt)
@@ -141,14 +142,14 @@ rising-more last version [] [] later rising = tt
 rising-more last version [] (move ∷ moves) later rising = (omega arith, tt, tt)
 rising-more last version (of ∷ older) moves later rising = (
   omega (arith, later, rising.0),
-  all-append (λ (other : Dated). of.0 < other.0) older (dated version moves) rising.1
-      (all-dated (λ (other : Dated). of.0 < other.0) version moves (omega (arith, later, rising.0))),
+  all-append (λ (other : Dated). of.version < other.version) older (dated version moves) rising.1
+      (all-dated (λ (other : Dated). of.version < other.version) version moves (omega (arith, later, rising.0))),
   rising-more last version older moves later rising.2,
 )
 
 -- moves that a proxy whose last ticket was of this version may learn with one of the next version
 record AreToLearn (resolvers last version : ℕ) (moves : List Dated) : Type 0 where
-  above : AllByRecursion (λ (of : Dated). last < of.0) moves
+  above : AllByRecursion (λ (of : Dated). last < of.version) moves
   rising : AreRisingUpTo version moves
   targets : GoToResolvers resolvers moves
 
@@ -162,12 +163,12 @@ more-to-learn : (resolvers last version next : ℕ) (older : List Dated) (moves 
 more-to-learn resolvers last version next older moves within later learn exist =
     record {
       above =
-          all-append (λ (of : Dated). last < of.0) older (dated next moves) learn.above
-          (all-dated (λ (of : Dated). last < of.0) next moves (omega (arith, within, later)));
+          all-append (λ (of : Dated). last < of.version) older (dated next moves) learn.above
+          (all-dated (λ (of : Dated). last < of.version) next moves (omega (arith, within, later)));
       rising = rising-more version next older moves later learn.rising;
       targets =
-          all-append (λ (of : Dated). Exist resolvers of.1) older (dated next moves) learn.targets
-          (all-dated (λ (of : Dated). Exist resolvers of.1) next moves exist);
+          all-append (λ (of : Dated). Exist resolvers of.moves) older (dated next moves) learn.targets
+          (all-dated (λ (of : Dated). Exist resolvers of.moves) next moves exist);
     }
 
 -- the proxy, whose last ticket was of this version, may learn what it hasn't had

@@ -7,7 +7,8 @@ use Rattle.std.proofs.Math.Bool.{and_assoc}
 use Rattle.std.proofs.lemmas.Bool.{eqb-true}
 use Rattle.std.proofs.lemmas.List.{map-set, drop-append-le, drop_all, append-nil, nil_from_length}
 use Rattle.fdb_txn.specs.declared.entry.Move.{Move}
-use Rattle.fdb_sequencer.specs.Moves.{Dated, dated, Moves, in_effect}
+use Rattle.fdb_sequencer.specs.declared.dated.Dated.{Dated}
+use Rattle.fdb_sequencer.specs.Moves.{dated, Moves, in_effect}
 
 -- where nothing took effect, no proxy lacks any of it
 pub none_unlearnt : {X : Type 0} (issued : List X) (proxies : ℕ) → issued ≡ []
@@ -26,15 +27,16 @@ issued_more issued more (count ∷ had) within = λ i. drop-append-le count issu
 
 -- so they do where there are some, and they are put after those that took effect before
 pub issued_at : (issued new : List Dated) (taken pending : List Move) (had : List ℕ) (version : ℕ)
-    → AllByRecursion (λ (count : ℕ). count ≤ length issued) had → new ≡ issued ++ (version, taken) ∷ []
+    → AllByRecursion (λ (count : ℕ). count ≤ length issued) had
+    → new ≡ issued ++ record { version = version; moves = taken } ∷ []
     → taken ≡ pending → (length pending == 0) ≡ false
     → map (λ (count : ℕ). drop count new) had
     ≡ map (λ (moves : List Dated). moves ++ dated version pending) (map (λ (count : ℕ). drop count issued) had)
 issued_at issued new taken [] had version within put took some = absurd (let same : true ≡ false = some in cc)
 issued_at issued new taken (move ∷ pending) had version within put took some =
-    (λ i. map (λ (count : ℕ). drop count ((put ∙ ap (λ (moves : List Move). issued ++ (version, moves) ∷ []) took) i))
-    had)
-    ∙ issued_more issued ((version, move ∷ pending) ∷ []) had within
+    let at : List Move → Dated = λ (moves : List Move). record { version = version; moves = moves } in
+    (λ i. map (λ (count : ℕ). drop count ((put ∙ ap (λ (moves : List Move). issued ++ at moves ∷ []) took) i)) had)
+    ∙ issued_more issued (at (move ∷ pending) ∷ []) had within
 
 -- where there are none, nothing changes
 nothing_more : (lists : List (List Dated)) → map (λ (moves : List Dated). moves ++ []) lists ≡ lists

@@ -6,10 +6,10 @@ use Rattle.std.proofs.lemmas.Bool.{and_parts, and_from, cases_Bool, ltb-true, le
 use Rattle.std.proofs.lemmas.Bool.{eq-eqb}
 use Rattle.std.proofs.lemmas.Grind.{common_steps}
 use Rattle.fdb_keys.specs.declared.refusal.Refusal.TheVariants.{Stale}
-use Rattle.fdb_keys.proofs.Exports.{items_eq_decides}
+use Rattle.fdb_keys.proofs.Exports.{all-append, items_eq_decides}
 use Rattle.fdb_txn.specs.declared.entry.Move.{Move}
 use Rattle.fdb_txn.specs.Equality.{move_eq}
-use Rattle.fdb_txn.proofs.Exports.{move_eq_decides, all-append, books_are_entries}
+use Rattle.fdb_txn.proofs.Exports.{move_eq_decides, books_are_entries}
 use Rattle.fdb_txn.specs.book.History.{AreEntries}
 use Rattle.fdb_sequencer.specs.declared.ticket.Ticket.{Ticket}
 use Rattle.fdb_sequencer.specs.Equality.{dated_eq}

@@ -1,15 +1,12 @@
 -- The moves of a sequencer, by the version at which they take effect, and which of them each proxy hasn't had.
 use Rattle.std.specs.Prelude.{ℕ, ◌++◌, List, [], ◌∷◌, map, replicate, slice_get, slice_set, unwrap_or}
+use Rattle.fdb_sequencer.specs.declared.dated.Dated.{Dated}
 use Rattle.fdb_txn.specs.declared.entry.Move.{Move}
-
--- a version with the moves that take effect at it
-abbrev pub Dated : Type 0
-Dated = ℕ × List Move
 
 -- the moves of a version, which are none where it moves nothing
 abbrev pub dated : ℕ → List Move → List Dated
 dated version [] = []
-dated version (move ∷ moves) = (version, move ∷ moves) ∷ []
+dated version (move ∷ moves) = record { version = version; moves = move ∷ moves } ∷ []
 
 pub record Moves : Type 0 where
   -- those that take effect with the next ticket that is accepted, the earliest one first

@@ -11,7 +11,8 @@ use Rattle.fdb_txn.specs.Equality.{move_eq}
 use Rattle.fdb_txn.specs.Limits.{resolver_limit, proxy_limit, ticket_limit, version_limit, greatest_advance, move_limit}
 use Rattle.fdb_sequencer.specs.declared.ticket.Ticket.{Ticket}
 use Rattle.fdb_sequencer.specs.Equality.{dated_eq}
-use Rattle.fdb_sequencer.specs.Moves.{Dated, Moves, no_moves, with_move, unlearnt_of, moves_at, handed_out}
+use Rattle.fdb_sequencer.specs.declared.dated.Dated.{Dated}
+use Rattle.fdb_sequencer.specs.Moves.{Moves, no_moves, with_move, unlearnt_of, moves_at, handed_out}
 
 pub record Sequencer : Type 0 where
   -- how many commit proxies and how many resolvers there are

@@ -10,7 +10,8 @@ use Rattle.fdb_txn.specs.book.Once.{NoIdTwice}
 use Rattle.fdb_txn.specs.book.History.{AreEntries, IsBook}
 use Rattle.fdb_sequencer.specs.declared.ticket.Ticket.{Ticket}
 use Rattle.fdb_txn.specs.Limits.{greatest_advance}
-use Rattle.fdb_sequencer.specs.Moves.{Dated, dated}
+use Rattle.fdb_sequencer.specs.declared.dated.Dated.{Dated}
+use Rattle.fdb_sequencer.specs.Moves.{dated}
 use Rattle.fdb_sequencer.specs.Sequencer.{Sequencer, IsSequencer, fresh, unlearnt_by, planned, plan_fault, accept_fault}
 use Rattle.fdb_sequencer.specs.Sequencer.{accepting, move_fault, moving}
 
@@ -131,18 +132,19 @@ last_of proxy last (ticket ∷ tickets) = last_of proxy (if ticket.proxy == prox
 abbrev pub AreRisingUpTo : ℕ → List Dated → Type 0
 AreRisingUpTo version [] = ⊤
 AreRisingUpTo version (of ∷ later) =
-    (of.0 ≤ version) × AllByRecursion (λ (other : Dated). of.0 < other.0) later × AreRisingUpTo version later
+    (of.version ≤ version) × AllByRecursion (λ (other : Dated). of.version < other.version) later
+    × AreRisingUpTo version later
 
 -- the moves go to resolvers of which there are so many
 abbrev pub GoToResolvers : ℕ → List Dated → Type 0
 GoToResolvers resolvers moves =
-    AllByRecursion (λ (of : Dated). AllByRecursion (λ (move : Move). move.to < resolvers) of.1) moves
+    AllByRecursion (λ (of : Dated). AllByRecursion (λ (move : Move). move.to < resolvers) of.moves) moves
 
 -- The ticket may be learnt by a proxy whose last ticket was of this version: its version and those of its moves are
 -- above that, its moves are of versions that rise up to its own, and they go to resolvers that exist.
 pub record MayBeLearnt (resolvers last : ℕ) (ticket : Ticket) : Type 0 where
   pub later : last < ticket.version
-  pub above : AllByRecursion (λ (of : Dated). last < of.0) ticket.moves
+  pub above : AllByRecursion (λ (of : Dated). last < of.version) ticket.moves
   pub rising : AreRisingUpTo ticket.version ticket.moves
   pub targets : GoToResolvers resolvers ticket.moves
 

@@ -4,6 +4,7 @@ ghost use Rattle.std.specs.Cmp.Lexicographic.{pointwise};
 ghost use Rattle.fdb_sequencer.specs.Equality.{dated_eq};
 ghost use Rattle.fdb_sequencer.specs.Moves.{dated};
 
+use crate::dated::Dated;
 use fdb_keys::Items;
 use fdb_txn::Move;
 use std::alloc::{AllocError, Global};
@@ -17,7 +18,7 @@ use std::mem;
 #[derive(Drop)]
 pub(crate) struct Moves {
     // those that took effect, by version
-    issued: Vec<(u64, Items<Move>)>,
+    issued: Vec<Dated>,
     // those that take effect with the next ticket
     pending: Items<Move>,
     // for each proxy how many of `issued` it has had
@@ -70,7 +71,7 @@ impl Moves {
     }
 
     // The moves that the proxy hasn't had, but for the pending ones.
-    fn unlearnt(&self, proxy: u32) -> &[(u64, Items<Move>)]
+    fn unlearnt(&self, proxy: u32) -> &[Dated]
         requires { proxy < length self.now.unlearnt }
         ensures { result.now ≡ unlearnt_of self.now proxy }
     {
@@ -78,17 +79,17 @@ impl Moves {
     }
 
     /// The moves that the proxy hasn't had, once the pending ones take effect at the version.
-    pub(crate) fn moves_at(
-        &self,
-        proxy: u32,
-        version: u64,
-    ) -> Result<Items<(u64, Items<Move>)>, AllocError>
+    pub(crate) fn moves_at(&self, proxy: u32, version: u64) -> Result<Items<Dated>, AllocError>
         requires { proxy < length self.now.unlearnt }
         ensures { IfOk result (λ moves. moves ≡ moves_at self.now proxy version) }
     {
         let mut moves = copies_by_version(*self.issued.allocator(), self.unlearnt(proxy))?;
         if !self.pending.is_empty() {
-            moves.push((version, self.copy_pending()?))?;
+            let pending = self.copy_pending()?;
+            moves.push(Dated {
+                version,
+                moves: pending,
+            })?;
         }
         Ok(moves)
     }
@@ -102,12 +103,7 @@ impl Moves {
 
     /// Whether the list is that of the moves that the proxy hasn't had, once the pending ones take effect at the
     /// version.
-    pub(crate) fn are_moves_at(
-        &self,
-        moves: &[(u64, Items<Move>)],
-        proxy: u32,
-        version: u64,
-    ) -> bool
+    pub(crate) fn are_moves_at(&self, moves: &[Dated], proxy: u32, version: u64) -> bool
         requires { proxy < length self.now.unlearnt }
         ensures { result ≡ pointwise dated_eq moves.now (moves_at self.now proxy version) }
     {
@@ -115,8 +111,8 @@ impl Moves {
         if moves.len() < unlearnt.len() {
             return false;
         }
-        let (front, rest) = moves.split_at(unlearnt.len());
-        front == unlearnt && are_dated(rest, version, &self.pending)
+        let (first, rest) = moves.split_at(unlearnt.len());
+        first == unlearnt && are_dated(rest, version, &self.pending)
     }
 
     // The pending moves take effect at the version. It takes no memory.
@@ -128,7 +124,7 @@ impl Moves {
         }
         let none = Items::new(*self.issued.allocator());
         let moves = mem::replace(&mut self.pending, none);
-        self.issued.push_reserved((version, moves));
+        self.issued.push_reserved(Dated { version, moves });
     }
 
     /// The pending moves take effect at the version, with a ticket of the proxy, which has had all moves then. It takes
@@ -143,25 +139,26 @@ impl Moves {
 }
 
 // Whether the list has just the moves of the version, and is empty where it moves nothing.
-fn are_dated(list: &[(u64, Items<Move>)], version: u64, moves: &Items<Move>) -> bool
+fn are_dated(list: &[Dated], version: u64, moves: &Items<Move>) -> bool
     ensures { result ≡ pointwise dated_eq list.now (dated version moves.now) }
 {
     match list {
         [] => moves.is_empty(),
-        [of] => !moves.is_empty() && of.0 == version && of.1 == *moves,
+        [one] => !moves.is_empty() && one.version == version && one.moves == *moves,
         _ => false,
     }
 }
 
-fn copies_by_version(
-    alloc: Global,
-    dated: &[(u64, Items<Move>)],
-) -> Result<Items<(u64, Items<Move>)>, AllocError>
+fn copies_by_version(alloc: Global, dated: &[Dated]) -> Result<Items<Dated>, AllocError>
     ensures { IfOk result (λ copies. copies ≡ dated.now) }
 {
     let mut copies_by_version = Items::new(alloc);
-    for of in dated {
-        copies_by_version.push((of.0, Move::copies(alloc, of.1.as_slice())?))?;
+    for one in dated {
+        let moves = Move::copies(alloc, one.moves.as_slice())?;
+        copies_by_version.push(Dated {
+            version: one.version,
+            moves,
+        })?;
     }
     Ok(copies_by_version)
 }

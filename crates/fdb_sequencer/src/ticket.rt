@@ -1,3 +1,4 @@
+use crate::dated::Dated;
 use fdb_keys::Items;
 use fdb_txn::Move;
 
@@ -14,7 +15,7 @@ pub struct Ticket {
     pub prev: u64,
     /// All moves that the proxy hasn't had, each list with its entry's version, the pending ones among them
     /// under the ticket's version.
-    pub moves: Items<(u64, Items<Move>)>,
+    pub moves: Items<Dated>,
     /// The moves that take effect at the ticket's version, the earliest one first.
     pub pending: Items<Move>,
 }

@@ -1,26 +1,25 @@
 -- Keys in their order, and those between the bounds of a range.
 use Rattle.std.specs.Prelude.{⊤}
-use Rattle.std.proofs.Common.{◌≡◌, ◌∙◌, sym, ap, ap₂, refl, subst, Bool, true, false, cond, not}
+use Rattle.std.proofs.Common.{◌≡◌, ◌∙◌, sym, ap, ap₂, refl, subst, Bool, true, false, cond}
 use Rattle.std.proofs.Common.{◌||◌, List, [], ◌∷◌, ◌++◌, filter, Option, Some, None, is_some}
-use Rattle.std.proofs.Common.{Ordering, Less, Equal, Greater, if◌then◌else◌, ⊎_elim}
+use Rattle.std.proofs.Common.{Less, if◌then◌else◌, ⊎_elim}
 use Rattle.std.specs.Prelude.{◌&&◌}
 use Rattle.std.specs.BTreeMap.{is_at}
-use Rattle.std.specs.BTreeMap.Range.{range_contains, entries_between}
+use Rattle.std.specs.BTreeMap.Range.{entries_between}
 use Rattle.std.specs.Cmp.Lexicographic.{slice_cmp, bytes_decides}
 use Rattle.std.specs.List.{AllByRecursion, list_any}
 use Rattle.std.specs.List.Sorted.{IsStrictlySortedBy}
 use Rattle.std.specs.Map.{lookup, keys_of}
-use Rattle.std.specs.Ordering.{nat_cmp, is_lt, is_le, is_eq, ordering_reverse}
+use Rattle.std.specs.Ordering.{nat_cmp, is_eq}
 use Rattle.std.specs.declared.ops.Bound.TheVariants.{Included, Excluded}
 use Rattle.std.proofs.lemmas.Bool.{cases_Bool, cond-true, cond-false}
-use Rattle.std.proofs.lemmas.Cmp.{nat_list_cmp_total}
 use Rattle.std.proofs.lemmas.Map.Text.{is_eq-slice_cmp}
-use Rattle.fdb_keys.specs.Points.{Point, point_eq, point_lt}
+use Rattle.fdb_keys.specs.Points.{Point, point_eq}
 use Rattle.fdb_keys.specs.Ranges.{Range, in_range}
 use Rattle.fdb_storage.specs.declared.version_list.VersionedValue.{VersionedValue}
 use Rattle.fdb_storage.specs.VersionLists.{newest_of}
 use Rattle.fdb_storage.specs.VersionMaps.{VersionedKeys, found, listed, versions_at}
-use Rattle.fdb_storage.specs.KeyPages.{keys_between}
+use Rattle.fdb_mutations.proofs.Exports.{between-within}
 
 -- ---- keys in their order
 abbrev pub IsInOrder : {V : Type 0} → List (Point × V) → Type 0
@@ -57,35 +56,8 @@ absent-here x held keys sorted here =
     (sym (same_key x held.0 here)) sorted.0)
 
 -- ---- keys between two bounds
-turned-order : (x y : Point) → slice_cmp nat_cmp y x ≡ ordering_reverse (slice_cmp nat_cmp x y)
-turned-order x y = nat_list_cmp_total.antisymm y x
-
-within-bounds : (range : Range) (x : Point)
-    → range_contains (slice_cmp nat_cmp) (Included range.begin) (Excluded range.end) x ≡ in_range range x
-unfolding point_lt
-within-bounds range x = ap₂ (λ (from past : Bool). from && not past)
-    (ap is_le (turned-order x range.begin) ∙ at_or_after (slice_cmp nat_cmp x range.begin))
-    (ap is_le (turned-order x range.end) ∙ at_or_after (slice_cmp nat_cmp x range.end))
-    ∙ ap (λ (b : Bool). not (is_lt (slice_cmp nat_cmp x range.begin)) && b)
-    (twice (is_lt (slice_cmp nat_cmp x range.end)))
-  where
-    at_or_after : (o : Ordering) → is_le (ordering_reverse o) ≡ not (is_lt o)
-    at_or_after Less = refl
-    at_or_after Equal = refl
-    at_or_after Greater = refl
-
-    twice : (b : Bool) → not (not b) ≡ b
-    twice true = refl
-    twice false = refl
-
 abbrev pub within : Range → VersionedKeys → VersionedKeys
 within range keys = filter (λ (held : Point × List VersionedValue). in_range range held.0) keys
-
-pub between-within : (range : Range) (keys : VersionedKeys) → keys_between range keys ≡ within range keys
-between-within range [] = refl
-between-within range (held ∷ keys) = ap₂
-    (λ (inside : Bool) (rest : VersionedKeys). cond inside (held ∷ rest) rest)
-    (within-bounds range held.0) (between-within range keys)
 
 -- ---- the keys at which something stands from their newest version on
 abbrev pub live_keys : VersionedKeys → List Point

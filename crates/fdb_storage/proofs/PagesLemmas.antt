@@ -17,11 +17,10 @@ use Rattle.fdb_keys.specs.Points.{Point}
 use Rattle.fdb_keys.specs.Ranges.{Range, in_range}
 use Rattle.fdb_keys.specs.Texts.{is_key}
 use Rattle.fdb_mutations.specs.Pairs.{first_of}
-use Rattle.fdb_mutations.proofs.Exports.{all-reverse}
+use Rattle.fdb_mutations.proofs.Exports.{all-reverse, between-within}
 use Rattle.fdb_storage.specs.declared.version_list.VersionedValue.{VersionedValue}
 use Rattle.fdb_storage.specs.VersionMaps.{VersionedKeys, found, HaveLegalKeys}
 use Rattle.fdb_storage.specs.KeyPages.{pairs_at, pairs_of, is_live, keys_between, first_more}
-use Rattle.fdb_storage.proofs.BetweenLemmas.{between-within}
 use Rattle.fdb_storage.proofs.PairsLemmas.{AreLive, all-live, length-live, pairs-live, pairs-reverse, pairs-within}
 use Rattle.fdb_storage.proofs.PairsLemmas.{take-live}
 

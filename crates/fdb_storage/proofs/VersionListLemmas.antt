@@ -2,14 +2,15 @@
 use Rattle.std.proofs.Common.{◌≡◌, ◌≢◌, ◌∙◌, sym, ap, refl, ℕ, ◌<◌, ◌≤◌, Bool, false}
 use Rattle.std.proofs.Common.{List, [], ◌∷◌, ◌++◌, nat_le, ◌==◌, if◌then◌else◌, arith}
 use Rattle.std.proofs.Common.{Option, Some, None, ◌⊎◌, inl, inr}
-use Rattle.std.specs.List.{AllByRecursion, fold}
+use Rattle.std.specs.List.{fold}
 use Rattle.std.specs.Bool.{Decides}
 use Rattle.std.specs.Cmp.Lexicographic.{bytes_decides}
 use Rattle.std.proofs.lemmas.Bool.{both_ways, cond-true, cond-false, le-leb, lt-leb}
 use Rattle.std.proofs.lemmas.List.Sums.{fold-append}
+use Rattle.fdb_keys.proofs.Exports.{all-weaken, ordered-front}
 use Rattle.fdb_storage.specs.declared.version_list.VersionedValue.{VersionedValue}
 use Rattle.fdb_storage.specs.VersionLists.{value_up_to, newest_of, ends_at, AreUpTo, AreAbove, AreBelow}
-use Rattle.fdb_storage.specs.VersionLists.{AreRising, AreChanges, IsVersionList, same_value}
+use Rattle.fdb_storage.specs.VersionLists.{AreChanges, IsVersionList, same_value}
 
 -- ---- what stands after some versions, from what stood before them
 abbrev pub value_from : Option (List ℕ) → ℕ → List VersionedValue → Option (List ℕ)
@@ -22,14 +23,12 @@ newest_from before values = fold (λ (before : Option (List ℕ)) (next : Versio
 
 pub value-of_both : (before : Option (List ℕ)) (v : ℕ) (through above : List VersionedValue)
     → value_from before v (through ++ above) ≡ value_from (value_from before v through) v above
-value-of_both before v [] above = refl
-value-of_both before v (next ∷ later) above =
-    value-of_both (if nat_le next.version v then next.value else before) v later above
+value-of_both before v = fold-append (λ (stood : Option (List ℕ)) (next : VersionedValue).
+    if nat_le next.version v then next.value else stood) before
 
 pub newest-of_both : (before : Option (List ℕ)) (through above : List VersionedValue)
     → newest_from before (through ++ above) ≡ newest_from (newest_from before through) above
-newest-of_both before [] above = refl
-newest-of_both before (next ∷ later) above = newest-of_both next.value later above
+newest-of_both = fold-append (λ (stood : Option (List ℕ)) (next : VersionedValue). next.value)
 
 pub value-up_to : (before : Option (List ℕ)) (v : ℕ) (values : List VersionedValue) → AreUpTo v values
     → value_from before v values ≡ newest_from before values
@@ -72,17 +71,16 @@ value_up_to-between v through above up_to all =
     value_up_to-above v through above all ∙ value_up_to-newest v through up_to
 
 pub up_to-weaken : (low high : ℕ) (values : List VersionedValue) → low ≤ high → AreUpTo low values → AreUpTo high values
-up_to-weaken low high [] order all = tt
-up_to-weaken low high (next ∷ later) order all = (omega (arith, all, order), up_to-weaken low high later order all.1)
+up_to-weaken low high values order = all-weaken _ _ (λ (next : VersionedValue) reached. omega (arith, reached, order))
+    values
 
 pub below-up_to : (v : ℕ) (values : List VersionedValue) → AreBelow v values → AreUpTo v values
-below-up_to v [] all = tt
-below-up_to v (next ∷ later) all = (omega (arith, all), below-up_to v later all.1)
+below-up_to v values = all-weaken _ _ (λ (next : VersionedValue) below. omega (arith, below)) values
 
 pub below-weaken : (low high : ℕ) (values : List VersionedValue) → low ≤ high → AreBelow low values
     → AreBelow high values
-below-weaken low high [] order all = tt
-below-weaken low high (next ∷ later) order all = (omega (arith, all, order), below-weaken low high later order all.1)
+below-weaken low high values order =
+    all-weaken _ _ (λ (next : VersionedValue) below. omega (arith, below, order)) values
 
 -- with the versions up to one, whose newest value stood before the others
 pub value_up_to-after : (low v : ℕ) (through above : List VersionedValue) → AreUpTo low through → low ≤ v
@@ -97,26 +95,9 @@ pub IsVersionList-empty : IsVersionList []
 IsVersionList-empty = record { rising = tt; changes = tt }
 
 -- ---- parts of lists
-pub all-of_both : {A : Type 0} (P : A → Type 0) (xs ys : List A) → AllByRecursion P (xs ++ ys)
-    → AllByRecursion P xs × AllByRecursion P ys
-all-of_both P [] ys all = (tt, all)
-all-of_both P (x ∷ xs) ys all = let others = all-of_both P xs ys all.1 in ((all.0, others.0), others.1)
-
-pub all-both : {A : Type 0} (P : A → Type 0) (xs ys : List A) → AllByRecursion P xs → AllByRecursion P ys
-    → AllByRecursion P (xs ++ ys)
-all-both P [] ys all others = others
-all-both P (x ∷ xs) ys all others = (all.0, all-both P xs ys all.1 others)
-
-pub rising-front : (front back : List VersionedValue) → AreRising (front ++ back) → AreRising front
-rising-front [] back rising = tt
-rising-front (next ∷ later) back rising = (
-  (all-of_both (λ (one : VersionedValue). next.version < one.version) later back rising.0).0,
-  rising-front later back rising.1,
-)
-
-pub rising-back : (front back : List VersionedValue) → AreRising (front ++ back) → AreRising back
-rising-back [] back rising = rising
-rising-back (next ∷ later) back rising = rising-back later back rising.1
+-- a version comes before those that are above it
+abbrev pub comes_before : VersionedValue → VersionedValue → Type 0
+comes_before next later = next.version < later.version
 
 pub changes-front : (before : Option (List ℕ)) (front back : List VersionedValue) → AreChanges before (front ++ back)
     → AreChanges before front
@@ -130,7 +111,7 @@ changes-back before (next ∷ later) back changes = changes-back next.value late
 
 pub IsVersionList-front : (front back : List VersionedValue) → IsVersionList (front ++ back) → IsVersionList front
 IsVersionList-front front back list = record {
-  rising = rising-front front back list.rising;
+  rising = ordered-front comes_before front back list.rising;
   changes = changes-front None front back list.changes;
 }
 
@@ -157,14 +138,6 @@ last-of (next ∷ later) = inr (ended next later (last-of later))
       last = ends.last;
       are = ap (λ (rest : List VersionedValue). next ∷ rest) ends.are;
     }
-
-pub below-last : (front : List VersionedValue) (last : VersionedValue) → AreRising (front ++ last ∷ [])
-    → AreBelow last.version front
-below-last [] last rising = tt
-below-last (next ∷ later) last rising = (
-  (all-of_both (λ (one : VersionedValue). next.version < one.version) later (last ∷ []) rising.0).1.0,
-  below-last later last rising.1,
-)
 
 pub ends_at-last : (v : ℕ) (front : List VersionedValue) (last : VersionedValue)
     → ends_at v (front ++ last ∷ []) ≡ (last.version == v)

@@ -1,16 +1,15 @@
 -- A list of versions without the value of one version, and with a value put at one.
 use Rattle.std.proofs.Common.{◌≡◌, ◌≢◌, ◌∙◌, sym, ap, subst, refl, ℕ, ◌-◌, ◌<◌, ◌≤◌, true, false}
-use Rattle.std.proofs.Common.{List, [], ◌∷◌, ◌++◌, length, length-append, take, nat_le, arith}
-use Rattle.std.proofs.Common.{Option, None, ⊎_elim}
+use Rattle.std.proofs.Common.{List, [], ◌∷◌, ◌++◌, length, length-append, take, nat_le, arith, Option, None, ⊎_elim}
 use Rattle.std.proofs.lemmas.Bool.{both_ways, cond-true, eqb-true, eqb-false, le-leb}
 use Rattle.std.proofs.Math.Seq.{take-append_seam}
+use Rattle.fdb_keys.proofs.Exports.{all-append, all-parts, ordered-before, ordered-push}
 use Rattle.fdb_storage.specs.declared.version_list.VersionedValue.{VersionedValue}
 use Rattle.fdb_storage.specs.VersionLists.{value_up_to, newest_of, ends_at, AreUpTo, AreBelow, AreRising, AreChanges}
 use Rattle.fdb_storage.specs.VersionLists.{IsVersionList}
 use Rattle.fdb_storage.proofs.VersionListLemmas.{newest_from, value-of_both, value_up_to-newest, value_up_to-above}
-use Rattle.fdb_storage.proofs.VersionListLemmas.{up_to-weaken, below-up_to, below-weaken, all-of_both, all-both}
-use Rattle.fdb_storage.proofs.VersionListLemmas.{IsVersionList-front, EndsWith, last-of, below-last}
-use Rattle.fdb_storage.proofs.VersionListLemmas.{newest-last, ends_at-last}
+use Rattle.fdb_storage.proofs.VersionListLemmas.{up_to-weaken, below-up_to, below-weaken, comes_before}
+use Rattle.fdb_storage.proofs.VersionListLemmas.{IsVersionList-front, EndsWith, last-of, newest-last, ends_at-last}
 
 -- ---- without the value of one version
 pub record IsWithout (version : ℕ) (values left : List VersionedValue) : Type 0 where
@@ -31,7 +30,7 @@ without-last : (version : ℕ) (front : List VersionedValue) (last : VersionedVa
     → last.version ≡ version → IsWithout version (front ++ last ∷ []) front
 without-last version front last list is = record {
   list = IsVersionList-front front (last ∷ []) list;
-  below = below-weaken last.version version front (omega arith) (below-last front last list.rising);
+  below = below-weaken last.version version front (omega arith) (ordered-before comes_before front last [] list.rising);
   before = λ v under. sym (value_up_to-above v front (last ∷ []) (omega (arith, is, under), tt));
 }
 
@@ -66,14 +65,14 @@ without-any version values list up_to ends = record {
     ended parts =
         let within : AreUpTo version (parts.front ++ parts.last ∷ []) = subst (AreUpTo version) parts.are up_to in
         let last : parts.last.version ≤ version =
-        (all-of_both (λ (next : VersionedValue). next.version ≤ version) parts.front (parts.last ∷ []) within).1.0 in
+        (all-parts (λ (next : VersionedValue). next.version ≤ version) parts.front (parts.last ∷ []) within).1.0 in
         let other : parts.last.version ≢ version =
         eqb-false parts.last.version version
         (sym (ends_at-last version parts.front parts.last) ∙ sym (ap (ends_at version) parts.are) ∙ ends) in
         let under : parts.last.version < version = omega arith in
-        all-both (λ (next : VersionedValue). next.version < version) parts.front (parts.last ∷ [])
+        all-append (λ (next : VersionedValue). next.version < version) parts.front (parts.last ∷ [])
         (below-weaken parts.last.version version parts.front (omega arith)
-        (below-last parts.front parts.last (subst AreRising parts.are list.rising))) (under, tt)
+        (ordered-before comes_before parts.front parts.last [] (subst AreRising parts.are list.rising))) (under, tt)
 
 -- ---- with a value at a version
 pub record HasPut (version : ℕ) (value : Option (List ℕ)) (old new : List VersionedValue) : Type 0 where
@@ -82,14 +81,6 @@ pub record HasPut (version : ℕ) (value : Option (List ℕ)) (old new : List Ve
   pub after : (v : ℕ) → version ≤ v → value_up_to v new ≡ value
   pub newest : newest_of new ≡ value
   pub up_to : AreUpTo version new
-
-rising-push : (values : List VersionedValue) (last : VersionedValue) → AreRising values → AreBelow last.version values
-    → AreRising (values ++ last ∷ [])
-rising-push [] last rising below = (tt, tt)
-rising-push (next ∷ later) last rising below = (
-  all-both (λ (one : VersionedValue). next.version < one.version) later (last ∷ []) rising.0 (below.0, tt),
-  rising-push later last rising.1 below.1,
-)
 
 changes-push : (before : Option (List ℕ)) (values : List VersionedValue) (last : VersionedValue)
     → AreChanges before values → last.value ≢ newest_from before values → AreChanges before (values ++ last ∷ [])
@@ -101,7 +92,7 @@ pub put-pushed : (version : ℕ) (value : Option (List ℕ)) (values : List Vers
     → HasPut version value values (values ++ record { version = version; value = value } ∷ [])
 put-pushed version value values list below other = record {
   list = record {
-    rising = rising-push values last list.rising below;
+    rising = ordered-push comes_before values last list.rising below;
     changes = changes-push None values last list.changes (λ same. other (sym same));
   };
   before = λ v under. value_up_to-above v values (last ∷ []) (under, tt);
@@ -109,7 +100,7 @@ put-pushed version value values list below other = record {
       value-of_both None v values (last ∷ [])
       ∙ cond-true (nat_le version v) value (value_up_to v values) (le-leb version v from);
   newest = newest-last values last;
-  up_to = all-both (λ (next : VersionedValue). next.version ≤ version) values (last ∷ [])
+  up_to = all-append (λ (next : VersionedValue). next.version ≤ version) values (last ∷ [])
       (below-up_to version values below)
       (omega arith, tt);
 }

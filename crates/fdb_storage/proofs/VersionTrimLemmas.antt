@@ -1,15 +1,16 @@
 -- What is left of a list of versions from a floor on.
 use Rattle.std.proofs.Common.{◌≡◌, ◌≢◌, ◌∙◌, sym, ap, subst, refl, ℕ, ◌+◌, ◌-◌, ◌≤◌, Bool, true, false}
 use Rattle.std.proofs.Common.{List, [], ◌∷◌, ◌++◌, length, length-append, length-drop}
-use Rattle.std.proofs.Common.{append_assoc, drop, nat_le, is_some, arith}
-use Rattle.std.proofs.Common.{Option, Some, None, ◌⊎◌, inl, inr, ⊎_elim}
+use Rattle.std.proofs.Common.{append_assoc, drop, nat_le, is_some, arith, Option, Some, None, ◌⊎◌, inl, inr, ⊎_elim}
 use Rattle.std.proofs.lemmas.Bool.{both_ways, cond-true, cases_Bool, le-leb}
 use Rattle.std.proofs.Math.Seq.{drop-append_seam}
+use Rattle.fdb_keys.proofs.Exports.{all-parts, ordered-back}
+use Rattle.fdb_txn.proofs.Exports.{one_if}
 use Rattle.fdb_storage.specs.declared.version_list.VersionedValue.{VersionedValue}
 use Rattle.fdb_storage.specs.VersionLists.{value_up_to, newest_of, AreUpTo, AreRising, AreChanges}
 use Rattle.fdb_storage.specs.VersionLists.{AreAbove, IsVersionList, kept_from}
-use Rattle.fdb_storage.proofs.VersionCountLemmas.{one_if, kept-counted}
-use Rattle.fdb_storage.proofs.VersionListLemmas.{value_from, value_up_to-after, all-of_both, rising-back, changes-back}
+use Rattle.fdb_storage.proofs.VersionCountLemmas.{kept-counted}
+use Rattle.fdb_storage.proofs.VersionListLemmas.{value_from, value_up_to-after, comes_before, changes-back}
 use Rattle.fdb_storage.proofs.VersionListLemmas.{EndsWith, last-of, newest-last}
 
 -- ---- from a version on
@@ -27,7 +28,7 @@ without-through : (floor : ℕ) (through above : List VersionedValue) → IsVers
     → AreUpTo floor through → newest_of through ≡ None → IsLeft floor (through ++ above) above
 without-through floor through above list up_to none = record {
   list = record {
-    rising = rising-back through above list.rising;
+    rising = ordered-back comes_before through above list.rising;
     changes =
         subst (λ (stood : Option (List ℕ)). AreChanges stood above) none (changes-back None through above list.changes);
   };
@@ -42,7 +43,8 @@ with-last : (floor : ℕ) (front : List VersionedValue) (last : VersionedValue) 
     → IsLeft floor ((front ++ last ∷ []) ++ above) (last ∷ above)
 with-last floor front last above list up_to there = record {
   list = record {
-    rising = rising-back front (last ∷ above) (subst AreRising (append_assoc front (last ∷ []) above) list.rising);
+    rising = ordered-back comes_before front (last ∷ above)
+        (subst AreRising (append_assoc front (last ∷ []) above) list.rising);
     changes = (
       there,
       subst (λ (stood : Option (List ℕ)). AreChanges stood above) (newest-last front last)
@@ -57,7 +59,7 @@ with-last floor front last above list up_to there = record {
 }
   where
     reached : last.version ≤ floor
-    reached = (all-of_both (λ (next : VersionedValue). next.version ≤ floor) front (last ∷ []) up_to).1.0
+    reached = (all-parts (λ (next : VersionedValue). next.version ≤ floor) front (last ∷ []) up_to).1.0
 
 drop-all : (through above : List VersionedValue) → newest_of through ≡ None
     → drop (unseen through) (through ++ above) ≡ above

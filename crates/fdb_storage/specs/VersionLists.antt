@@ -1,9 +1,11 @@
 -- What stood at a key when.
-use Rattle.std.specs.Prelude.{◌≢◌, ◌<◌, ◌≤◌, ⊤, ℕ, zero, suc, Bool, false, ◌+◌, ◌&&◌, ◌==◌, not, nat_le, nat_eq, fold}
+use Rattle.std.specs.Prelude.{◌≢◌, ◌<◌, ◌≤◌, ⊤, ℕ, Bool, false, ◌+◌, ◌==◌, nat_le, nat_eq, fold}
 use Rattle.std.specs.Prelude.{List, [], ◌∷◌, Option, None, is_some, if◌then◌else◌}
 use Rattle.std.specs.List.{AllByRecursion}
 use Rattle.std.specs.Option.{option_eq}
 use Rattle.std.specs.Cmp.Lexicographic.{pointwise}
+use Rattle.fdb_keys.specs.Ordered.{AreOrdered}
+use Rattle.fdb_txn.specs.Versions.{changes_by, count_between}
 use Rattle.fdb_storage.specs.declared.version_list.VersionedValue.{VersionedValue}
 
 -- ---- what stands at a version
@@ -36,8 +38,7 @@ AreAbove v values = AllByRecursion (λ (next : VersionedValue). v < next.version
 -- ---- which lists are kept
 -- each version is below those after it
 abbrev pub AreRising : List VersionedValue → Type 0
-AreRising [] = ⊤
-AreRising (next ∷ later) = AreAbove next.version later × AreRising later
+AreRising values = AreOrdered (λ (next later : VersionedValue). next.version < later.version) values
 
 -- each value is another one than the one before it, the first one than what stood before
 abbrev pub AreChanges : Option (List ℕ) → List VersionedValue → Type 0
@@ -55,13 +56,7 @@ same_value = option_eq (pointwise nat_eq)
 
 -- whether another value stands at a version than at the one before
 abbrev pub changes_at : (ℕ → Option (List ℕ)) → ℕ → Bool
-changes_at value_of zero = false
-changes_at value_of (suc v) = not (same_value (value_of (suc v)) (value_of v))
-
--- how many of the versions above low and at most high pass the test
-abbrev pub count_between : (ℕ → Bool) → ℕ → ℕ → ℕ
-count_between test low zero = 0
-count_between test low (suc v) = count_between test low v + (if nat_le low v && test (suc v) then 1 else 0)
+changes_at = changes_by same_value
 
 -- the number of versions above the floor, and at most `through`, at which another value stands than at the one before,
 -- and one more where a value stands at the floor

@@ -36,8 +36,7 @@ pub(crate) fn page_of(
         × (page.more ≡ nat_lt (length page.pairs) (length (pairs_of keys.now.entries version range.now reverse)))) }
     ensures sorted { AreSorted keys.now.entries }
 {
-    // the keys of a map rise
-    let _count = keys.len();
+    know_rising(keys);
     let mut found = if reverse {
         backward(alloc, keys, range, version, limit)?
     } else {
@@ -46,6 +45,13 @@ pub(crate) fn page_of(
     let more = cut(&mut found, limit);
     let pairs = copies(alloc, found.as_slice(), version)?;
     Ok(Page { pairs, more })
+}
+
+// The keys of a map rise. It does nothing else.
+fn know_rising(keys: &BTreeMap<Bytes, VersionList>)
+    ensures { AreSorted keys.now.entries }
+{
+    let _count = keys.len();
 }
 
 // Cuts what was found at the limit, if there is one. Whether that left something out.

@@ -206,7 +206,7 @@ fn outside(alloc: Global, bounds: &[Bounds]) -> Result<RangeSet, Refusal> {
     tree.outside(alloc, &range)
 }
 
-fn ranges_of(alloc: Global, bounds: &[Bounds]) -> Result<Vec<KeyRange>, Refusal> {
+fn make_ranges(alloc: Global, bounds: &[Bounds]) -> Result<Vec<KeyRange>, Refusal> {
     let mut ranges = Vec::new(alloc);
     for (begin, end) in bounds {
         ranges.push(KeyRange::new(alloc, begin, end)?)?;
@@ -215,7 +215,7 @@ fn ranges_of(alloc: Global, bounds: &[Bounds]) -> Result<Vec<KeyRange>, Refusal>
 }
 
 fn joined(alloc: Global, bounds: &[Bounds], others: &[Bounds]) -> Result<RangeSet, Refusal> {
-    let (mut set, others) = both(set_of(alloc, bounds), ranges_of(alloc, others))?;
+    let (mut set, others) = both(set_of(alloc, bounds), make_ranges(alloc, others))?;
     set.add_all(others)?;
     Ok(set)
 }

@@ -3,5 +3,6 @@ mod CloneLemmas
 mod EqualityLemmas
 mod NumberMaps
 mod RoomLemmas
+mod VersionsLemmas
 mod book
 mod rules

@@ -3,7 +3,7 @@ ghost use Rattle.std.specs.Prelude.{◌≡◌};
 use crate::limits::SIZE_LIMIT;
 use crate::size::{check_size, least_size, size_of};
 use crate::txn_id::TxnId;
-use crate::writes::joined;
+use crate::writes::with_named;
 use fdb_keys::{RangeSet, Refusal, Refused, SharedList};
 use fdb_mutations::Mutation;
 use std::alloc::Global;
@@ -131,11 +131,11 @@ impl Sealed {
         if least_size(&reads, mutations.as_slice()) > SIZE_LIMIT {
             return Err(refused(Refusal::TransactionTooLarge, reads, writes, mutations));
         }
-        let joined = match joined(alloc, &writes, mutations.as_slice()) {
-            Ok(joined) => joined,
+        let all_writes = match with_named(alloc, &writes, mutations.as_slice()) {
+            Ok(all_writes) => all_writes,
             Err(why) => return Err(refused(why, reads, writes, mutations)),
         };
-        match Sealed::from_joined(id, read_version, reads, joined, mutations) {
+        match Sealed::from_joined(id, read_version, reads, all_writes, mutations) {
             Ok(sealed) => Ok(sealed),
             Err(last) => Err(refused(last.why, last.back.reads, writes, last.back.mutations)),
         }

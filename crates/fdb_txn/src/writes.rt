@@ -11,7 +11,7 @@ use fdb_mutations::Mutation;
 use std::alloc::Global;
 
 // The ranges of the keys that the mutations name.
-fn ranges_of(alloc: Global, mutations: &[Mutation]) -> Result<Vec<KeyRange>, Refusal>
+fn named_ranges(alloc: Global, mutations: &[Mutation]) -> Result<Vec<KeyRange>, Refusal>
     ensures answers { Answers result None (λ ranges. ranges.items ≡ map named_range mutations.now) }
     ensures points { IfOk result (λ ranges. (x : Point) → in_set ranges.items x ≡ some_names mutations.now x) }
 {
@@ -24,7 +24,7 @@ fn ranges_of(alloc: Global, mutations: &[Mutation]) -> Result<Vec<KeyRange>, Ref
 
 // The write set with all that the mutations name, in O(n log n) comparisons of bounds for n ranges and mutations
 // together.
-pub(crate) fn joined(
+pub(crate) fn with_named(
     alloc: Global,
     writes: &RangeSet,
     mutations: &[Mutation],
@@ -33,7 +33,7 @@ pub(crate) fn joined(
     ensures points { IfOk result (λ set. (x : Point) → in_set set x
         ≡ (some_names mutations.now x || in_set writes.now x)) }
 {
-    let ranges = ranges_of(alloc, mutations)?;
+    let ranges = named_ranges(alloc, mutations)?;
     let mut set = writes.clone()?;
     set.add_all(ranges)?;
     Ok(set)

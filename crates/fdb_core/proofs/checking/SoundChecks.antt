@@ -36,13 +36,13 @@ module _ (k : Cluster) (tied : Tied k) where
       let its = refines.logs.each_shard i role (restores-at _ _ k.shards.items tied.roles.shards.items tied.shards i
       role
       there works) in
-      let reached : role.core.version ≤ last_version (take role.applied k.book.items) =
-      subst (λ (v : ℕ). role.core.version ≤ v) its.version (le_refl role.core.version) in
-      its.serves role.core.version x its.serving (le_refl role.core.version)
+      let reached : role.state.version ≤ last_version (take role.applied k.book.items) =
+      subst (λ (v : ℕ). role.state.version ≤ v) its.version (le_refl role.state.version) in
+      its.serves role.state.version x its.serving (le_refl role.state.version)
       (subst (λ (range : Range). in_range range x ≡ true) its.range inside)
       ∙ sym (ap (λ (map : Map). get map x)
       (serial-front splits k.book.items (entries-rising (suc (length splits)) k.book.items refines.book.entries)
-      role.applied role.core.version reached))
+      role.applied role.state.version reached))
 
   -- there are few
   pub few-shards : length k.shards.items ≤ shard_limit

@@ -79,7 +79,7 @@ module _ (book : List Entry) (entry : Entry) where
           → ResolverRefines splits (book ++ entry ∷ []) i role
       resolver-push i role its = record {
         within = omega (arith, length-append book (entry ∷ []), its.within);
-        state = subst (λ (front : List Entry). IsResolverAt splits front i role.core)
+        state = subst (λ (front : List Entry). IsResolverAt splits front i role.state)
             (sym (take-append-le role.taken book (entry ∷ []) its.within)) its.state;
         count = its.count;
         sent = record {
@@ -116,7 +116,7 @@ module _ (book : List Entry) (entry : Entry) where
             within = omega (arith, length-append book (entry ∷ []), its.within);
             last = its.last ∙ ap last_version front;
             kept = λ tag keeps_it. its.kept tag keeps_it
-                ∙ ap (λ (all : List Entry). above (popped_through role.core tag)
+                ∙ ap (λ (all : List Entry). above (popped_through role.state tag)
                 (messages_for config.resolver_splits (piece config.shard_splits tag) all)) front;
           }
 

@@ -6,7 +6,7 @@ use Rattle.std.proofs.lemmas.List.{length-map}
 use Rattle.std.proofs.lemmas.Option.{same_Some}
 use Rattle.fdb_mutations.specs.Maps.{Map}
 use Rattle.fdb_resolver.specs.Resolvers.{Resolver}
-use Rattle.fdb_sequencer.specs.Moves.{Dated}
+use Rattle.fdb_sequencer.specs.declared.dated.Dated.{Dated}
 use Rattle.fdb_sequencer.specs.Sequencer.{unlearnt_by}
 use Rattle.fdb_sequencer.proofs.Exports.{passed_is_stale}
 use Rattle.fdb_log.specs.Messages.{log_of}
@@ -58,16 +58,17 @@ roles_keep k tied = (have_failed, sequencer, resolvers, parts, messages, logs, r
     before = tied.refines
 
     -- the lists of cores flag what the lists of roles do
-    flags-of : {A B : Type 0} (core : A → B) (failed : B → Bool) (xs : List A)
-        → map (λ (x : A). failed (core x)) xs ≡ map failed (map core xs)
-    flags-of core failed [] = refl
-    flags-of core failed (x ∷ xs) = ap (λ rest. failed (core x) ∷ rest) (flags-of core failed xs)
+    flags-of : {A B : Type 0} (state : A → B) (failed : B → Bool) (xs : List A)
+        → map (λ (x : A). failed (state x)) xs ≡ map failed (map state xs)
+    flags-of state failed [] = refl
+    flags-of state failed (x ∷ xs) = ap (λ rest. failed (state x) ∷ rest) (flags-of state failed xs)
 
     have_failed : HaveFailed (system_of k)
     have_failed = record {
-      resolvers = flags-of (λ (role : ResolverRole). role.core) (λ (core : Resolver). core.is_failed) k.resolvers.items;
-      logs = flags-of (λ (role : LogRole). role.core) (λ (core : Log). core.is_failed) k.logs.items;
-      shards = flags-of (λ (role : ShardRole). role.core) (λ (core : Shard). core.is_failed) k.shards.items;
+      resolvers = flags-of (λ (role : ResolverRole). role.state) (λ (state : Resolver). state.is_failed)
+          k.resolvers.items;
+      logs = flags-of (λ (role : LogRole). role.state) (λ (state : Log). state.is_failed) k.logs.items;
+      shards = flags-of (λ (role : ShardRole). role.state) (λ (state : Shard). state.is_failed) k.shards.items;
     }
 
     sequencer : SequencerKeeps m k.sequencer
@@ -93,11 +94,11 @@ roles_keep k tied = (have_failed, sequencer, resolvers, parts, messages, logs, r
                   ∙ sym (dated_moves-append its.front its.behind) ∙ ap dated_moves its.whole,
             )
 
-    resolvers : EachKeeps (ResolverKeeps m) m.resolvers (map (λ (role : ResolverRole). role.core) k.resolvers.items)
+    resolvers : EachKeeps (ResolverKeeps m) m.resolvers (map (λ (role : ResolverRole). role.state) k.resolvers.items)
     resolvers = (
-      length-map k.resolvers.items (λ (role : ResolverRole). role.core)
+      length-map k.resolvers.items (λ (role : ResolverRole). role.state)
           ∙ sym (length-map k.resolvers.items (λ (role : ResolverRole). role.taken)),
-      each-seen (λ (role : ResolverRole). role.taken) (λ (role : ResolverRole). role.core) (ResolverKeeps m)
+      each-seen (λ (role : ResolverRole). role.taken) (λ (role : ResolverRole). role.state) (ResolverKeeps m)
           k.resolvers.items
           (λ i role there works.
           let state = (before.resolvers.each i role (restores-at _ _ k.resolvers.items tied.roles.resolvers.items
@@ -111,11 +112,11 @@ roles_keep k tied = (have_failed, sequencer, resolvers, parts, messages, logs, r
     messages : MessagesKeep m k.messages.items
     messages = (before.book.each_pooled, λ i entry there. before.book.made i entry there)
 
-    logs : EachKeeps (LogKeeps m) m.logs (map (λ (role : LogRole). role.core) k.logs.items)
+    logs : EachKeeps (LogKeeps m) m.logs (map (λ (role : LogRole). role.state) k.logs.items)
     logs = (
-      length-map k.logs.items (λ (role : LogRole). role.core)
+      length-map k.logs.items (λ (role : LogRole). role.state)
           ∙ sym (length-map k.logs.items (λ (role : LogRole). role.taken)),
-      each-seen (λ (role : LogRole). role.taken) (λ (role : LogRole). role.core) (LogKeeps m) k.logs.items keeps-log,
+      each-seen (λ (role : LogRole). role.taken) (λ (role : LogRole). role.state) (LogKeeps m) k.logs.items keeps-log,
     )
       where
         log-count : length k.logs.items ≡ length tied.roles.logs.items
@@ -124,7 +125,7 @@ roles_keep k tied = (have_failed, sequencer, resolvers, parts, messages, logs, r
         shard-count : length k.shards.items ≡ length tied.roles.shards.items
         shard-count = restores-count _ _ k.shards.items tied.roles.shards.items tied.shards
 
-        keeps-log : (i : ℕ) (role : LogRole) → slice_get k.logs.items i ≡ Some role → LogKeeps m i role.taken role.core
+        keeps-log : (i : ℕ) (role : LogRole) → slice_get k.logs.items i ≡ Some role → LogKeeps m i role.taken role.state
         keeps-log i role there works =
             let at = restores-at _ _ k.logs.items tied.roles.logs.items tied.logs i role there works in
             let its = before.logs.each_log i role at in
@@ -139,7 +140,7 @@ roles_keep k tied = (have_failed, sequencer, resolvers, parts, messages, logs, r
                   let found = seen-at progress_of k.shards.items tag progress told in
                   let was = restores-like _ _ (λ x. (refl, refl, refl)) k.shards.items tied.roles.shards.items
                   tied.shards tag found.0 found.1 in
-                  let own = kept-tag role.core tag keeps_it in
+                  let own = kept-tag role.state tag keeps_it in
                   let number : log_of (length tied.roles.logs.items) tag ≡ i =
                   ap (λ (n : ℕ). log_of n tag) (before.logs.log_count ∙ sym its.logs) ∙ own.1 ∙ its.number in
                   (before.logs.each_tag tag was.0 was.1 role
@@ -149,10 +150,10 @@ roles_keep k tied = (have_failed, sequencer, resolvers, parts, messages, logs, r
               kept = its.kept;
             }
 
-    reaches : EachKeeps (ShardReaches m) m.shards (map (λ (role : ShardRole). role.core) k.shards.items)
+    reaches : EachKeeps (ShardReaches m) m.shards (map (λ (role : ShardRole). role.state) k.shards.items)
     reaches = (
-      length-map k.shards.items (λ (role : ShardRole). role.core) ∙ sym (length-map k.shards.items progress_of),
-      each-seen progress_of (λ (role : ShardRole). role.core) (ShardReaches m) k.shards.items
+      length-map k.shards.items (λ (role : ShardRole). role.state) ∙ sym (length-map k.shards.items progress_of),
+      each-seen progress_of (λ (role : ShardRole). role.state) (ShardReaches m) k.shards.items
           (λ i role there works.
           let its = before.logs.each_shard i role (restores-at _ _ k.shards.items tied.roles.shards.items tied.shards i
           role there works) in
@@ -165,20 +166,20 @@ roles_keep k tied = (have_failed, sequencer, resolvers, parts, messages, logs, r
           }),
     )
 
-    count : length (map (λ (role : ShardRole). role.core) k.shards.items) ≡ suc (length k.config.shard_splits)
-    count = length-map k.shards.items (λ (role : ShardRole). role.core)
+    count : length (map (λ (role : ShardRole). role.state) k.shards.items) ≡ suc (length k.config.shard_splits)
+    count = length-map k.shards.items (λ (role : ShardRole). role.state)
         ∙ restores-count _ _ k.shards.items tied.roles.shards.items tied.shards ∙ before.logs.shard_count
 
-    serves : (i : ℕ) (shard : Shard) → slice_get (map (λ (role : ShardRole). role.core) k.shards.items) i ≡ Some shard
+    serves : (i : ℕ) (shard : Shard) → slice_get (map (λ (role : ShardRole). role.state) k.shards.items) i ≡ Some shard
         → ShardServes m.config m.book i shard
     serves i shard there works v x from until inside =
-        let found = seen-at (λ (role : ShardRole). role.core) k.shards.items i shard there in
+        let found = seen-at (λ (role : ShardRole). role.state) k.shards.items i shard there in
         let role = found.0 in
-        let working : role.core.is_failed ≡ false = ap (λ (it : Shard). it.is_failed) found.2 ∙ works in
+        let working : role.state.is_failed ≡ false = ap (λ (it : Shard). it.is_failed) found.2 ∙ works in
         let its = before.logs.each_shard i role (restores-at _ _ k.shards.items tied.roles.shards.items tied.shards i
         role found.1 working) in
-        let from_there : role.core.floor ≤ v = subst (λ (it : Shard). it.floor ≤ v) (sym found.2) from in
-        let until_there : v ≤ role.core.version = subst (λ (it : Shard). v ≤ it.version) (sym found.2) until in
+        let from_there : role.state.floor ≤ v = subst (λ (it : Shard). it.floor ≤ v) (sym found.2) from in
+        let until_there : v ≤ role.state.version = subst (λ (it : Shard). v ≤ it.version) (sym found.2) until in
         ap (λ (it : Shard). value_at it v x) (sym found.2)
         ∙ its.serves v x from_there until_there inside
         ∙ ap (λ (map : Map). get map x)

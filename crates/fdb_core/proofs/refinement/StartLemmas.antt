@@ -5,7 +5,7 @@ use Rattle.std.proofs.lemmas.List.{length-replicate}
 use Rattle.std.specs.List.{AllByRecursion}
 use Rattle.fdb_keys.specs.Points.{Point}
 use Rattle.fdb_txn.specs.rules.Splits.{piece}
-use Rattle.fdb_sequencer.specs.Moves.{Dated}
+use Rattle.fdb_sequencer.specs.declared.dated.Dated.{Dated}
 use Rattle.fdb_sequencer.specs.Sequencer.{fresh}
 use Rattle.fdb_log.specs.Logs.{IsNewLog}
 use Rattle.fdb_log.specs.Messages.{log_of}
@@ -42,25 +42,25 @@ pub no-logs : (count tags : ℕ) → AreNewLogs 0 count tags []
 no-logs count tags = record { as_many = refl; each = λ i role there. cc }
 
 pub one-log : (n count tags : ℕ) (logs : List LogRole) (role : LogRole) → AreNewLogs n count tags logs
-    → IsNewLog n count tags role.core → role.taken ≡ 0 → AreNewLogs (n + 1) count tags (logs ++ role ∷ [])
+    → IsNewLog n count tags role.state → role.taken ≡ 0 → AreNewLogs (n + 1) count tags (logs ++ role ∷ [])
 one-log n count tags logs role before new taken = record {
   as_many = omega (arith, length-append logs (role ∷ []), before.as_many);
-  each = each-push (λ (i : ℕ) (it : LogRole). IsNewLog i count tags it.core × (it.taken ≡ 0)) logs role before.each
-      (subst (λ (i : ℕ). IsNewLog i count tags role.core × (role.taken ≡ 0)) (sym before.as_many) (new, taken));
+  each = each-push (λ (i : ℕ) (it : LogRole). IsNewLog i count tags it.state × (it.taken ≡ 0)) logs role before.each
+      (subst (λ (i : ℕ). IsNewLog i count tags role.state × (role.taken ≡ 0)) (sym before.as_many) (new, taken));
 }
 
 pub no-shards : (splits : List Point) → AreNewShards 0 splits []
 no-shards splits = record { as_many = refl; each = λ i role there. cc }
 
 pub one-shard : (n : ℕ) (splits : List Point) (shards : List ShardRole) (role : ShardRole)
-    → AreNewShards n splits shards → IsNewShard n (piece splits n) role.core → role.applied ≡ 0 → role.popped ≡ 0
+    → AreNewShards n splits shards → IsNewShard n (piece splits n) role.state → role.applied ≡ 0 → role.popped ≡ 0
     → AreNewShards (n + 1) splits (shards ++ role ∷ [])
 one-shard n splits shards role before new applied popped = record {
   as_many = omega (arith, length-append shards (role ∷ []), before.as_many);
   each = each-push
-      (λ (i : ℕ) (it : ShardRole). IsNewShard i (piece splits i) it.core × (it.applied ≡ 0) × (it.popped ≡ 0))
+      (λ (i : ℕ) (it : ShardRole). IsNewShard i (piece splits i) it.state × (it.applied ≡ 0) × (it.popped ≡ 0))
       shards role before.each
-      (subst (λ (i : ℕ). IsNewShard i (piece splits i) role.core × (role.applied ≡ 0) × (role.popped ≡ 0))
+      (subst (λ (i : ℕ). IsNewShard i (piece splits i) role.state × (role.applied ≡ 0) × (role.popped ≡ 0))
       (sym before.as_many) (new, applied, popped));
 }
 
@@ -71,7 +71,7 @@ module _ (config : Config) (logs : List LogRole) (shards : List ShardRole)
   log-start : Each (LogRefines config []) logs
   log-start i role there =
       let new = new_logs.each i role there in
-      let at = new-log config i role.core new.0 in
+      let at = new-log config i role.state new.0 in
       record {
         number = at.number;
         logs = at.logs;
@@ -85,7 +85,7 @@ module _ (config : Config) (logs : List LogRole) (shards : List ShardRole)
   shard-start : Each (ShardRefines config []) shards
   shard-start i role there =
       let new = new_shards.each i role there in
-      let at = new-shard config i role.core new.0 in
+      let at = new-shard config i role.state new.0 in
       record {
         tag = at.tag;
         range = at.range;
@@ -138,10 +138,10 @@ sequencer-start config proxies resolvers all_proxies all_resolvers = record {
   made = refl;
 }
 
--- a commit proxy of a new core, at which nobody waits
+-- a commit proxy of a new state, at which nobody waits
 pub commit_proxy-start : (index : ℕ) (config : Config) (role : CommitProxyRole)
-    → IsNewProxy index config role.core.proxy
-    → role ≡ record { core = role.core; waiting = []; in_flight = []; entry = 0; is_reported = false }
+    → IsNewProxy index config role.state.proxy
+    → role ≡ record { state = role.state; waiting = []; in_flight = []; entry = 0; is_reported = false }
     → IsNewCommitProxy config role
 commit_proxy-start index config role new is =
     subst (IsNewCommitProxy config) (sym is) (record {
@@ -150,7 +150,7 @@ commit_proxy-start index config role new is =
         front = [];
         behind = [];
         whole = refl;
-        core = new_proxies_have_no_entry config index role.core.proxy new;
+        state = new_proxies_have_no_entry config index role.state.proxy new;
         unlearnt = refl;
         waiting = ap (λ (p : Core). p.waiting) new.rest;
         in_flight = ap (λ (p : Core). p.batch) new.rest;

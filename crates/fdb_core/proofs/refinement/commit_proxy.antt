@@ -1,7 +1,7 @@
 pub mod Answering
-pub mod CoreDeciding
-pub mod CoreSealing
-pub mod CoreStages
+pub mod StateDeciding
+pub mod StateSealing
+pub mod StateStages
 pub mod Deciding
 pub mod Failing
 pub mod Fronts

@@ -14,7 +14,7 @@ use Rattle.fdb_core.specs.check.Holding.{HoldsTheRun, StopsByShard}
 -- each shard whose version lies below that of the last of the first n entries has the run's values there
 abbrev pub HaveHeld : List Point → List Entry → List ShardRole → ℕ → Type 0
 HaveHeld splits book shards n =
-    AllByRecursion (λ (role : ShardRole). nat_lt role.core.version (last_version (take n book)) ≡ true
+    AllByRecursion (λ (role : ShardRole). nat_lt role.state.version (last_version (take n book)) ≡ true
     → HoldsTheRun splits book role) shards
 
 -- What a check of a world finds: that each acknowledged transaction is serialized at its spot, and that each shard has

@@ -22,17 +22,17 @@ HasTheMap map shard = (x : Point) → in_range shard.range x ≡ true → value_
 -- at its version the shard, unless it has failed, has the run's values in its range
 abbrev pub HoldsTheRun : List Point → List Entry → ShardRole → Type 0
 HoldsTheRun splits book role =
-    role.core.is_failed ≡ false
-    → HasTheMap (serial_map_at splits role.core.version (seen_of book).places) role.core
+    role.state.is_failed ≡ false
+    → HasTheMap (serial_map_at splits role.state.version (seen_of book).places) role.state
 
 -- the shard's version is from one on and below another, where there is one
 abbrev pub is_between : ℕ → Option ℕ → ShardRole → Bool
-is_between from until role = nat_le from role.core.version && is_below role.core.version until
+is_between from until role = nat_le from role.state.version && is_below role.state.version until
 
 -- a shard that is there has the map, unless it has failed
 abbrev pub HasTheMapThere : ℕ → Option ℕ → Map → ShardRole → Type 0
 HasTheMapThere from until map role =
-    role.core.is_failed ≡ false → is_between from until role ≡ true → HasTheMap map role.core
+    role.state.is_failed ≡ false → is_between from until role ≡ true → HasTheMap map role.state
 
 -- the fault names one of the shards, of which the claim isn't true
 abbrev pub ShardDiffers : (ShardRole → Type 0) → List ShardRole → CheckFault → Type 0

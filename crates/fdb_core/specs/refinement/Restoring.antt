@@ -13,16 +13,16 @@ use Rattle.fdb_core.specs.refinement.log.Ties.{progress_of}
 
 -- whether a role has failed
 abbrev pub proxy_failed : CommitProxyRole → Bool
-proxy_failed role = role.core.proxy.is_failed
+proxy_failed role = role.state.proxy.is_failed
 
 abbrev pub resolver_failed : ResolverRole → Bool
-resolver_failed role = role.core.is_failed
+resolver_failed role = role.state.is_failed
 
 abbrev pub log_failed : LogRole → Bool
-log_failed role = role.core.is_failed
+log_failed role = role.state.is_failed
 
 abbrev pub shard_failed : ShardRole → Bool
-shard_failed role = role.core.is_failed
+shard_failed role = role.state.is_failed
 
 -- which roles of the cluster have failed
 abbrev pub failures_of : Cluster → Failures
@@ -46,7 +46,7 @@ SameLog x y = x.taken ≡ y.taken
 
 abbrev pub SameShard : ShardRole → ShardRole → Type 0
 SameShard x y =
-    (progress_of x ≡ progress_of y) × (x.core.range ≡ y.core.range) × (x.core.version ≡ y.core.version)
+    (progress_of x ≡ progress_of y) × (x.state.range ≡ y.state.range) × (x.state.version ≡ y.state.version)
 
 -- Of each two roles the second is what the first was before it failed: the same where the first works, and else one of
 -- which the machine and the pool have the same.

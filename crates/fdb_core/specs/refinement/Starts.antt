@@ -13,13 +13,13 @@ use Rattle.fdb_core.specs.refinement.resolver.Resolving.{ResolverRefines}
 -- the first n of so many logs for so many tags, which took nothing
 pub record AreNewLogs (n count tags : ℕ) (logs : List LogRole) : Type 0 where
   pub as_many : length logs ≡ n
-  pub each : Each (λ (i : ℕ) (role : LogRole). IsNewLog i count tags role.core × (role.taken ≡ 0)) logs
+  pub each : Each (λ (i : ℕ) (role : LogRole). IsNewLog i count tags role.state × (role.taken ≡ 0)) logs
 
 -- the first n shards between the splits, which applied nothing
 pub record AreNewShards (n : ℕ) (splits : List Point) (shards : List ShardRole) : Type 0 where
   pub as_many : length shards ≡ n
   pub each : Each (λ (i : ℕ) (role : ShardRole).
-      IsNewShard i (piece splits i) role.core × (role.applied ≡ 0) × (role.popped ≡ 0)) shards
+      IsNewShard i (piece splits i) role.state × (role.applied ≡ 0) × (role.popped ≡ 0)) shards
 
 -- the resolver with the number, which took nothing
 abbrev pub IsNewResolver : ℕ → ResolverRole → Type 0

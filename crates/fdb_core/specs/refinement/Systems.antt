@@ -20,9 +20,9 @@ system_of k =
     record {
       state = state_of k;
       sequencer = k.sequencer;
-      resolvers = map (λ (role : ResolverRole). role.core) k.resolvers.items;
+      resolvers = map (λ (role : ResolverRole). role.state) k.resolvers.items;
       parts = k.parts.items;
       messages = k.messages.items;
-      logs = map (λ (role : LogRole). role.core) k.logs.items;
-      shards = map (λ (role : ShardRole). role.core) k.shards.items;
+      logs = map (λ (role : LogRole). role.state) k.logs.items;
+      shards = map (λ (role : ShardRole). role.state) k.shards.items;
     }

@@ -7,26 +7,25 @@ ghost use Rattle.fdb_core.specs.check.Holding.{ChecksShards};
 ghost use Rattle.fdb_keys.specs.Points.{Point};
 ghost use Rattle.fdb_txn.specs.book.History.{AreEntries};
 ghost use Rattle.fdb_core.specs.check.Checking.{HaveHeld};
-ghost use Rattle.fdb_check.specs.Judged.{AreJudged};
-ghost use Rattle.fdb_check.specs.Running.{HasComeTo};
+ghost use Rattle.fdb_check.specs.Running.{run_of};
 
 use crate::book::last_version;
 use crate::roles::shard::ShardRole;
-use fdb_check::{CheckFault, Run, new_run, run_entry};
-use fdb_keys::{Items, Refusal};
+use fdb_check::{CheckFault, JudgedBook, SerialRun};
+use fdb_keys::Refusal;
 use fdb_mutations::PlainMap;
-use fdb_proxy::Outcome;
 use fdb_txn::Entry;
 use std::alloc::Global;
 
 // Whether the shard has at its version the map's values in its range. Refused only where memory runs out, or where the
 // shard has failed.
 fn has_map(alloc: Global, role: &ShardRole, map: &PlainMap) -> Result<bool, Refusal>
-    ensures { IfOk result (λ held. IsTrue held ↔ HasTheMap map.now role.now.core) }
+    ensures { IfOk result (λ held. IsTrue held ↔ HasTheMap map.now role.now.state) }
 {
-    let range = role.core.range();
+    let range = role.state.range();
     let mut held = PlainMap::new(alloc);
-    role.core.copy_into(&mut held, range, role.core.version())?;
+    role.state
+        .copy_into(&mut held, range, role.state.version())?;
     let pairs = held.range(range, 0, false)?;
     Ok(pairs == map.range(range, 0, false)?)
 }
@@ -54,8 +53,8 @@ fn compare_shard(
         (λ fault. (fault ≡ CheckFault.NoMemory)
         ⊎ ((fault ≡ CheckFault.Shard number) × ¬ (HasTheMapThere from until map.now role.now))) }
 {
-    let version = role.core.version();
-    if role.core.is_failed() || version < from || !is_below(version, until) {
+    let version = role.state.version();
+    if role.state.is_failed() || version < from || !is_below(version, until) {
         return Ok(());
     }
     match has_map(alloc, role, map) {
@@ -83,64 +82,63 @@ fn compare_shards(
 }
 
 // Compares the shards that are between the entry and the one before it with the run, and goes on through the entry.
-fn run_next(
+fn run_next<'a>(
     alloc: Global,
-    run: &mut Run,
+    run: SerialRun<'a>,
     shards: &[ShardRole],
     book: &[Entry],
     index: usize,
-) -> Result<(), CheckFault>
+) -> Result<SerialRun<'a>, CheckFault>
     requires within { index < length book.now }
     requires few { length shards.now ≤ shard_limit }
     ensures { (splits : List Point) → AreEntries (suc (length splits)) 0 book.now
-        → HasComeTo splits book.now index 0 run.old → HaveHeld splits book.now shards.now index
+        → run.entry ≡ run_of splits book.now index → HaveHeld splits book.now shards.now index
         → MatchResult result
-        (λ _. HasComeTo splits book.now (index + 1) 0 run.new × HaveHeld splits book.now shards.now (index + 1))
+        (λ after. (after ≡ run_of splits book.now (index + 1)) × HaveHeld splits book.now shards.now (index + 1))
         (StopsByShard (HoldsTheRun splits book.now) shards.now) }
 {
     let entry = &book[index];
     let from = last_version(book, index);
-    compare_shards(alloc, &run.map, shards, from, Some(entry.version))?;
-    run_entry(run, book)
+    compare_shards(alloc, run.map(), shards, from, Some(entry.version))?;
+    run.next_entry()
 }
 
 // Goes through all entries.
-fn run_all(
+fn run_all<'a>(
     alloc: Global,
-    run: &mut Run,
+    first: SerialRun<'a>,
     shards: &[ShardRole],
     book: &[Entry],
-) -> Result<(), CheckFault>
+) -> Result<SerialRun<'a>, CheckFault>
     requires { length shards.now ≤ shard_limit }
     ensures { (splits : List Point) → AreEntries (suc (length splits)) 0 book.now
-        → HasComeTo splits book.now 0 0 run.old
+        → first.entry ≡ run_of splits book.now 0
         → MatchResult result
-        (λ _. HasComeTo splits book.now (length book.now) 0 run.new
+        (λ run. (run ≡ run_of splits book.now (length book.now))
         × HaveHeld splits book.now shards.now (length book.now))
         (StopsByShard (HoldsTheRun splits book.now) shards.now) }
 {
+    let mut run = first;
     for index in 0..book.len() {
-        run_next(alloc, run, shards, book, index)?;
+        run = run_next(alloc, run, shards, book, index)?;
     }
-    Ok(())
+    Ok(run)
 }
 
 /// Compares each shard that hasn't failed at its version with the run of the book.
 pub(crate) fn check_shards(
     alloc: Global,
-    judged: &[Items<Outcome>],
-    book: &[Entry],
+    judged: &JudgedBook,
     shards: &[ShardRole],
 ) -> Result<(), CheckFault>
     requires { length shards.now ≤ shard_limit }
-    ensures { (splits : List Point) → AreEntries (suc (length splits)) 0 book.now → AreJudged splits book.now judged.now
-        → ChecksShards result (HoldsTheRun splits book.now) shards.now }
+    ensures { ChecksShards result (HoldsTheRun judged.now.splits judged.now.book) shards.now }
 {
     if shards.is_empty() {
         return Ok(());
     }
-    let mut run = new_run(alloc, judged);
-    run_all(alloc, &mut run, shards, book)?;
+    let book = judged.book();
+    let run = run_all(alloc, SerialRun::new(alloc, judged), shards, book)?;
     let from = last_version(book, book.len());
-    compare_shards(alloc, &run.map, shards, from, None)
+    compare_shards(alloc, run.map(), shards, from, None)
 }

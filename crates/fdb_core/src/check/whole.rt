@@ -6,7 +6,7 @@ ghost use Rattle.fdb_core.specs.check.Checking.{Finds};
 
 use crate::check::shards::check_shards;
 use crate::cluster::Cluster;
-use fdb_check::{CheckFault, check_placed, judge_book};
+use fdb_check::{CheckFault, JudgedBook};
 
 /// Compares every acknowledged transcript with the run of one transaction at a time, and each shard that hasn't failed
 /// at its version. Answers the number of acknowledged transactions. A fault is found just where
@@ -22,14 +22,11 @@ pub(crate) fn check_all(cluster: &Cluster) -> Result<u64, CheckFault>
         cluster.now.acknowledged.items cluster.now.shards.items }
 {
     let splits = cluster.config.resolver_splits.as_slice();
-    let judged = judge_book(cluster.alloc, splits, &cluster.book)?;
-    let outcomes = judged.as_slice();
-    let count = check_placed(
-        cluster.alloc,
-        outcomes,
-        &cluster.book,
-        &cluster.acknowledged,
-    )?;
-    check_shards(cluster.alloc, outcomes, &cluster.book, &cluster.shards)?;
+    let judged = match JudgedBook::new(cluster.alloc, splits, &cluster.book) {
+        Ok(judged) => judged,
+        Err(_) => return Err(CheckFault::NoMemory),
+    };
+    let count = judged.check(cluster.alloc, &cluster.acknowledged)?;
+    check_shards(cluster.alloc, &judged, &cluster.shards)?;
     Ok(count)
 }

@@ -32,10 +32,10 @@ pub(crate) enum Sender {
 }
 
 /// A commit proxy with what the transactions were answered that wait there and that are in flight, in the order in
-/// which its core has them, and with the number of the batch's entry.
+/// which its state has them, and with the number of the batch's entry.
 #[derive(Drop)]
 pub(crate) struct CommitProxyRole {
-    pub(crate) core: CommitCore,
+    pub(crate) state: CommitCore,
     pub(crate) waiting: Items<Transcript>,
     pub(crate) in_flight: Items<Transcript>,
     pub(crate) entry: u32,
@@ -77,9 +77,9 @@ impl CommitProxyRole {
         requires within { index < config.now.proxies }
         ensures { Answers result None (IsNewCommitProxy config.now) }
     {
-        let core = CommitCore::new(alloc, index, config)?;
+        let state = CommitCore::new(alloc, index, config)?;
         Ok(CommitProxyRole {
-            core,
+            state,
             waiting: Items::new(alloc),
             in_flight: Items::new(alloc),
             entry: 0,
@@ -89,9 +89,9 @@ impl CommitProxyRole {
 
     /// Whether no batch is in flight.
     pub(crate) fn is_idle(&self) -> bool
-        ensures { result ≡ has_no_batch self.now.core.proxy.stage }
+        ensures { result ≡ has_no_batch self.now.state.proxy.stage }
     {
-        self.core.is_idle()
+        self.state.is_idle()
     }
 
     /// The session's open transaction is finished. One that wrote nothing is handed out, and the session has none any
@@ -104,39 +104,39 @@ impl CommitProxyRole {
         sessions: &mut Sessions,
         session: u32,
     ) -> Result<Option<Transcript>, Refusal>
-        requires works { self.old.core.proxy.is_failed ≡ false }
+        requires works { self.old.state.proxy.is_failed ≡ false }
         requires new { IfSome (open_at sessions.old session) (λ transcript.
-            place_of transcript.id (self.old.core.proxy.batch ++ self.old.core.proxy.waiting) ≡ None) }
-        ensures submits { Submits session sessions.old self.old.core.proxy self.old.waiting result sessions.new
-            self.new.core.proxy self.new.waiting }
-        ensures others { self.new ≡ record self.old { core = self.new.core; waiting = self.new.waiting } }
+            place_of transcript.id (self.old.state.proxy.batch ++ self.old.state.proxy.waiting) ≡ None) }
+        ensures submits { Submits session sessions.old self.old.state.proxy self.old.waiting result sessions.new
+            self.new.state.proxy self.new.waiting }
+        ensures others { self.new ≡ record self.old { state = self.new.state; waiting = self.new.waiting } }
     {
-        self.core.reserve()?;
+        self.state.reserve()?;
         let mut waiting = mem::replace(&mut self.waiting, Items::new(alloc)).into_vec();
-        let submitted = take_in(&mut self.core, &mut waiting, sessions, session);
+        let submitted = take_in(&mut self.state, &mut waiting, sessions, session);
         self.waiting = Items::from_vec(waiting);
         submitted
     }
 
     /// The first of those who wait, at most as many as a batch may have, become the batch of the ticket's entry.
     /// Answers the batch, and the part of each resolver. Refused only as `NoMemory`. Then who waits is as before, and
-    /// the core is, too, or has failed while it learnt the ticket.
+    /// the state is, too, or has failed while it learnt the ticket.
     pub(crate) fn seal(
         &mut self,
         alloc: Global,
         ticket: &Ticket,
     ) -> Result<(Batch, Items<Part>), Refusal>
-        requires { IsTicketFor (sealing self.old.core.proxy) ticket.now }
+        requires { IsTicketFor (sealing self.old.state.proxy) ticket.now }
         ensures answers { (config : Config) (book : List Entry) (known : Known)
             → CommitProxyRefines config book known self.old → is_idle (seen_as self.old).stage ≡ true
             → IsNextTicket config book known ticket.now → AreEntries (suc (length config.resolver_splits)) 0 book
             → Answers result None
             (λ given. Seals config book known ticket.now self.old given.0 given.1 self.new) }
-        ensures left { learn_fault (sealing self.old.core.proxy) ticket.now ≡ None
+        ensures left { learn_fault (sealing self.old.state.proxy) ticket.now ≡ None
             → OnErr result (IsLeftUnsealed ticket.now self.old self.new) }
     {
         let mut first = mem::replace(&mut self.waiting, Items::new(alloc)).into_vec();
-        match seal_first(alloc, &mut self.core, &mut first, ticket) {
+        match seal_first(alloc, &mut self.state, &mut first, ticket) {
             Ok((batch, parts, rest)) => {
                 self.waiting = Items::from_vec(rest);
                 self.in_flight = Items::from_vec(first);
@@ -161,7 +161,7 @@ impl CommitProxyRole {
             × CommitProxyRefines config book known self.new) }
         ensures refused { OnErr result (self.new ≡ self.old) }
     {
-        self.core.verdict(verdicts)
+        self.state.verdict(verdicts)
     }
 
     /// Decides the batch. Answers what becomes of each place, and the messages for the logs. Refused as `WrongState`
@@ -183,7 +183,7 @@ impl CommitProxyRole {
             (seen_before book self.old.entry) entry)) }
         ensures refused { OnErr result (self.new ≡ self.old) }
     {
-        self.core.decide_with_messages()
+        self.state.decide_with_messages()
     }
 
     /// A log's acknowledgement came. Refused as `Stale` where the batch doesn't wait for it, and then nothing changes.
@@ -196,7 +196,7 @@ impl CommitProxyRole {
             × CommitProxyRefines config book known self.new) }
         ensures refused { OnErr result (self.new ≡ self.old) }
     {
-        self.core.logged(ack)
+        self.state.logged(ack)
     }
 
     /// Whether all logs have acknowledged the batch, and its version isn't reported yet. Refused as `WrongState` unless
@@ -213,7 +213,7 @@ impl CommitProxyRole {
         if self.is_reported {
             return Err(Refusal::WrongState);
         }
-        self.core.all_logged()
+        self.state.all_logged()
     }
 
     /// The version of the batch is reported.
@@ -235,7 +235,7 @@ impl CommitProxyRole {
             → AnswersExactly result None
             (λ given. IsDone config book known entry self.old given.0 given.1 self.new) }
     {
-        let answers = self.core.done()?;
+        let answers = self.state.done()?;
         self.is_reported = false;
         let transcripts = mem::replace(&mut self.in_flight, Items::new(alloc));
         Ok((transcripts, answers))

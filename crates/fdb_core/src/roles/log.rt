@@ -11,7 +11,7 @@ use std::alloc::Global;
 /// A log, with how many entries it took.
 #[derive(Drop)]
 pub(crate) struct LogRole {
-    pub(crate) core: LogCore,
+    pub(crate) state: LogCore,
     pub(crate) taken: u32,
 }
 
@@ -23,8 +23,8 @@ pub(crate) fn new_logs(alloc: Global, logs: u32, tags: u32) -> Result<Vec<LogRol
 {
     let mut list = Vec::new(alloc);
     for log in 0..logs {
-        let core = LogCore::new(alloc, log, logs, tags)?;
-        list.push(LogRole { core, taken: 0 })?;
+        let state = LogCore::new(alloc, log, logs, tags)?;
+        list.push(LogRole { state, taken: 0 })?;
     }
     Ok(list)
 }

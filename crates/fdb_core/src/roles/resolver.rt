@@ -11,7 +11,7 @@ use std::alloc::{AllocError, Global};
 /// A resolver with how many entries it took, and what it sent of each.
 #[derive(Drop)]
 pub(crate) struct ResolverRole {
-    pub(crate) core: ResolverCore,
+    pub(crate) state: ResolverCore,
     pub(crate) taken: u32,
     pub(crate) sent: Vec<Verdicts>,
 }
@@ -37,14 +37,14 @@ impl ResolverRole {
         ensures taken { result.taken ≡ 0 }
     {
         ResolverRole {
-            core: ResolverCore::new(alloc, index),
+            state: ResolverCore::new(alloc, index),
             taken: 0,
             sent: Vec::new(alloc),
         }
     }
 
     /// Takes its part of the next entry, and answers what the rule says of each place that it is asked about. Refused
-    /// only as `NoMemory` where it works: then it has taken and sent nothing, and its core is as it was or has failed.
+    /// only as `NoMemory` where it works: then it has taken and sent nothing, and its state is as it was or has failed.
     pub(crate) fn take(
         &mut self,
         alloc: Global,
@@ -53,17 +53,17 @@ impl ResolverRole {
         requires part { IsPart part.now }
         requires few { self.old.taken < 2 ^ 32 - 1 }
         ensures takes { (splits : List Point) (before : List Entry) (entry : Entry) (i index : ℕ)
-            → IsResolverAt splits before i self.old.core
+            → IsResolverAt splits before i self.old.state
             → AreEntries (suc (length splits)) 0 (before ++ entry ∷ [])
             → IsPartOf splits (moves_through (seen_of before) entry)
             (record { index = index; version = entry.version; prev = entry.prev }) entry.batch i part.now
             → Answers result None (λ answer. TakesNext splits before entry i index self.old answer self.new) }
         ensures left { OnErr result (IsLeftBy self.old self.new) }
     {
-        // What is sent and answered has room before the core changes.
+        // What is sent and answered has room before the state changes.
         self.sent.reserve(1)?;
         let mut answer = Vec::with_capacity(alloc, part.items.as_slice().len())?;
-        let verdicts = self.core.take(part)?;
+        let verdicts = self.state.take(part)?;
         copy_all(&mut answer, verdicts.answers.as_slice());
         self.sent.push_reserved(verdicts);
         self.taken += 1;

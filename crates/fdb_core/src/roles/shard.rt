@@ -10,7 +10,7 @@ use std::alloc::Global;
 /// A shard, with how many entries it applied and the version through which its log was told to drop its messages.
 #[derive(Drop)]
 pub(crate) struct ShardRole {
-    pub(crate) core: Shard,
+    pub(crate) state: Shard,
     pub(crate) applied: u32,
     pub(crate) popped: u64,
 }
@@ -26,9 +26,9 @@ pub(crate) fn new_shards(
 {
     let mut list = Vec::new(alloc);
     for tag in 0..count {
-        let core = Shard::new(alloc, tag, shard_map.range(tag)?);
+        let state = Shard::new(alloc, tag, shard_map.range(tag)?);
         list.push(ShardRole {
-            core,
+            state,
             applied: 0,
             popped: 0,
         })?;

@@ -54,13 +54,13 @@ impl<'a> Model for ShardReads<'a> {
 }
 
 impl<'a> ShardReads<'a> {
-    // Refused where a shard that holds some of the range has failed or doesn't serve the version. The end is looked at
-    // since it is no later than the end of the keys: so each point of the range has a shard.
+    // Refused where a shard that holds some of the range has failed or doesn't serve the version. Each point of the
+    // range has a shard, since its end is no later than the end of the keys.
     fn check_range(&self, range: &KeyRange) -> Result<(), Refusal>
         ensures answers { AnswersExactly result (range_fault self.now range.now) (λ _. ⊤) }
         ensures legal { IsTrue (is_bound range.now.end) }
     {
-        let _end = range.end();
+        know_end(range);
         if is_failed(self.shards, range) {
             return Err(Refusal::Failed);
         }
@@ -129,9 +129,9 @@ impl<'a> ShardReads<'a> {
         ensures { (i : ℕ) → slice_get self.now.shards i ≡ Some role.now → Answers result None (λ pairs.
             pairs.items ≡ first_of limit (pairs_held self.now i range.now reverse)) }
     {
-        match range.clip(role.core.range())? {
+        match range.clip(role.state.range())? {
             Some(part) => {
-                let page = role.core.page(&part, self.version, limit, reverse)?;
+                let page = role.state.page(&part, self.version, limit, reverse)?;
                 Ok(page.pairs.into_vec())
             }
             None => Ok(Vec::new(self.alloc)),
@@ -159,7 +159,7 @@ impl<'a> Snapshot for ShardReads<'a> {
 
     fn get(&self, key: &Key) -> Result<Option<Bytes>, Refusal> {
         let number = self.shard_map.shard_of(key) as usize;
-        self.shards[number].core.get(key, self.version)
+        self.shards[number].state.get(key, self.version)
     }
 
     fn page(&self, range: &KeyRange, limit: u32, reverse: bool) -> Result<Page, Refusal> {
@@ -170,28 +170,35 @@ impl<'a> Snapshot for ShardReads<'a> {
     }
 }
 
+// A range's end is legal. It does nothing else.
+fn know_end(range: &KeyRange)
+    ensures { IsTrue (is_bound range.now.end) }
+{
+    let _end = range.end();
+}
+
 // Whether a shard that holds some of the range has failed.
 fn is_failed(shards: &[ShardRole], range: &KeyRange) -> bool
     ensures { result ≡ list_any (λ (role : Role).
-        ranges_meet role.core.range range.now && role.core.is_failed) shards.now }
+        ranges_meet role.state.range range.now && role.state.is_failed) shards.now }
 {
-    shards.iter().any(|role| role.core.range().meets(range) && role.core.is_failed())
+    shards.iter().any(|role| role.state.range().meets(range) && role.state.is_failed())
 }
 
 // Whether a shard that holds some of the range no longer serves the version.
 fn is_forgotten(shards: &[ShardRole], version: u64, range: &KeyRange) -> bool
     ensures { result ≡ list_any (λ (role : Role).
-        ranges_meet role.core.range range.now && nat_lt version role.core.floor) shards.now }
+        ranges_meet role.state.range range.now && nat_lt version role.state.floor) shards.now }
 {
-    shards.iter().any(|role| role.core.range().meets(range) && version < role.core.floor())
+    shards.iter().any(|role| role.state.range().meets(range) && version < role.state.floor())
 }
 
 // Whether a shard that holds some of the range doesn't serve the version yet.
 fn is_ahead(shards: &[ShardRole], version: u64, range: &KeyRange) -> bool
     ensures { result ≡ list_any (λ (role : Role).
-        ranges_meet role.core.range range.now && nat_lt role.core.version version) shards.now }
+        ranges_meet role.state.range range.now && nat_lt role.state.version version) shards.now }
 {
-    shards.iter().any(|role| role.core.range().meets(range) && role.core.version() < version)
+    shards.iter().any(|role| role.state.range().meets(range) && role.state.version() < version)
 }
 
 // How many pairs are still wanted of so many, of which there are some already: 0 where all are wanted, and none where

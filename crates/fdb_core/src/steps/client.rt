@@ -64,7 +64,7 @@ impl Cluster {
         if at >= self.commit_proxies.len() {
             return Err(Refusal::Unknown);
         }
-        if self.commit_proxies[at].core.is_failed() {
+        if self.commit_proxies[at].state.is_failed() {
             return self.submit_past(session);
         }
         self.acknowledged.reserve(1)?;

@@ -35,7 +35,7 @@ impl Cluster {
         if at >= self.commit_proxies.len() {
             return Err(Refusal::Unknown);
         }
-        if self.commit_proxies[at].core.is_failed() {
+        if self.commit_proxies[at].state.is_failed() {
             return Err(Refusal::Failed);
         }
         if !self.commit_proxies[at].is_idle() {
@@ -132,7 +132,7 @@ impl Cluster {
         ensures { Takes self.old (step.Verdict entry resolver) result self.new }
     {
         let at = self.receiver(entry, Sender::Resolver(resolver))?;
-        if self.commit_proxies[at].core.is_failed() {
+        if self.commit_proxies[at].state.is_failed() {
             return Err(Refusal::Failed);
         }
         let verdicts = self.resolvers[resolver as usize].sent_on(self.alloc, entry as usize)?;
@@ -146,7 +146,7 @@ impl Cluster {
         ensures { Takes self.old (step.Logged entry log) result self.new }
     {
         let at = self.receiver(entry, Sender::Log(log))?;
-        if self.commit_proxies[at].core.is_failed() {
+        if self.commit_proxies[at].state.is_failed() {
             return Err(Refusal::Failed);
         }
         let commit_proxy = &mut self.commit_proxies[at];
@@ -163,7 +163,7 @@ impl Cluster {
         if at >= self.commit_proxies.len() {
             return Err(Refusal::Unknown);
         }
-        if self.commit_proxies[at].core.is_failed() {
+        if self.commit_proxies[at].state.is_failed() {
             return Err(Refusal::Failed);
         }
         let i = self.commit_proxies[at].entry as usize;
@@ -182,7 +182,7 @@ impl Cluster {
         if at >= self.commit_proxies.len() {
             return Err(Refusal::Unknown);
         }
-        if self.commit_proxies[at].core.is_failed() {
+        if self.commit_proxies[at].state.is_failed() {
             return Err(Refusal::Failed);
         }
         self.commit_proxies[at].check_logged()?;
@@ -204,7 +204,7 @@ impl Cluster {
             return Err(Refusal::Unknown);
         }
         let commit_proxy = &self.commit_proxies[at];
-        if commit_proxy.core.is_failed() {
+        if commit_proxy.state.is_failed() {
             return Err(Refusal::Failed);
         }
         if commit_proxy.is_idle() {

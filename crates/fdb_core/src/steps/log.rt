@@ -20,11 +20,11 @@ impl Cluster {
         let Some(messages) = &self.messages[i] else {
             return Err(Refusal::Unknown);
         };
-        if self.logs[of].core.is_failed() {
+        if self.logs[of].state.is_failed() {
             return Err(Refusal::Failed);
         }
         let role = &mut self.logs[of];
-        role.core.push(&messages.as_slice()[of])?;
+        role.state.push(&messages.as_slice()[of])?;
         role.taken += 1;
         Ok(Answered::Done)
     }

@@ -17,7 +17,7 @@ impl Cluster {
         if i >= self.book.len() || of >= self.resolvers.len() {
             return Err(Refusal::Unknown);
         }
-        if self.resolvers[of].core.is_failed() {
+        if self.resolvers[of].state.is_failed() {
             return Err(Refusal::Failed);
         }
         let taken = self.resolvers[of].taken;

@@ -17,19 +17,19 @@ impl Cluster {
         if of >= self.shards.len() {
             return Err(Refusal::Unknown);
         }
-        if self.shards[of].core.is_failed() {
+        if self.shards[of].state.is_failed() {
             return Err(Refusal::Failed);
         }
         let from = of % self.logs.len();
-        if self.logs[from].core.is_failed() {
+        if self.logs[from].state.is_failed() {
             return Err(Refusal::Failed);
         }
         let log = &self.logs[from];
         let role = &mut self.shards[of];
-        let peek = log.core.peek(shard, role.core.version(), limit)?;
-        role.core.apply(&peek)?;
+        let peek = log.state.peek(shard, role.state.version(), limit)?;
+        role.state.apply(&peek)?;
         role.applied += peek.messages.len() as u32;
-        Ok(Answered::Version(role.core.version()))
+        Ok(Answered::Version(role.state.version()))
     }
 
     #[tactic(auto, unfolding(fdb_machine::specs::machine::RoleSteps::forgets))]
@@ -41,12 +41,12 @@ impl Cluster {
         if of >= self.shards.len() {
             return Err(Refusal::Unknown);
         }
-        if self.shards[of].core.is_failed() {
+        if self.shards[of].state.is_failed() {
             return Err(Refusal::Failed);
         }
         let role = &mut self.shards[of];
-        role.core.forget(version)?;
-        Ok(Answered::Version(role.core.floor()))
+        role.state.forget(version)?;
+        Ok(Answered::Version(role.state.floor()))
     }
 
     #[tactic(auto, unfolding(fdb_machine::specs::machine::RoleSteps::pops))]
@@ -58,17 +58,17 @@ impl Cluster {
         if of >= self.shards.len() {
             return Err(Refusal::Unknown);
         }
-        if self.shards[of].core.is_failed() {
+        if self.shards[of].state.is_failed() {
             return Err(Refusal::Failed);
         }
         let from = of % self.logs.len();
-        if self.logs[from].core.is_failed() {
+        if self.logs[from].state.is_failed() {
             return Err(Refusal::Failed);
         }
         let log = &mut self.logs[from];
         let role = &mut self.shards[of];
-        let version = role.core.version();
-        log.core.pop(shard, version)?;
+        let version = role.state.version();
+        log.state.pop(shard, version)?;
         role.popped = version;
         Ok(Answered::Version(version))
     }

@@ -66,7 +66,7 @@ module _ (config : Config) (m : Machine) where
       (none_failed config).logs log) ≡ false
   none-pulled shard log = ap₂ (λ one other. one || other) (no-shard shard) (none-set config.logs log)
 
-  none-used : (taken : Step) → uses_failed m (none_failed config) taken ≡ false
+  none-used : (one_step : Step) → uses_failed m (none_failed config) one_step ≡ false
   none-used (step.Ask session proxy) = refl
   none-used (step.Grant proxy) = refl
   none-used (step.Get session key snapshot) = none-read (open_at m.sessions session) (op.Get key snapshot)
@@ -90,7 +90,7 @@ module _ (config : Config) (m : Machine) where
   none-used (step.Move range to) = refl
 
 -- so it comes to what the machine says
-pub none-taken : (config : Config) (m : Machine) (taken : Step)
-    → taken_of (record { machine = m; failed = none_failed config }) taken ≡ next m taken
-none-taken config m taken =
-    ap (λ (uses : Bool). unless_failed uses (next m taken)) (none-used config m taken)
+pub none-taken : (config : Config) (m : Machine) (one_step : Step)
+    → taken_of (record { machine = m; failed = none_failed config }) one_step ≡ next m one_step
+none-taken config m one_step =
+    ap (λ (uses : Bool). unless_failed uses (next m one_step)) (none-used config m one_step)

@@ -21,7 +21,7 @@ use Rattle.fdb_machine.specs.declared.step.Answered.{Answered}
 use Rattle.fdb_machine.specs.declared.step.Step.{Step}
 
 -- every step leaves a sound machine sound
-pub sound-after : (m : Machine) (taken : Step) → Invariant m → Invariant (after m (next m taken))
+pub sound-after : (m : Machine) (one_step : Step) → Invariant m → Invariant (after m (next m one_step))
 sound-after = kept-next Invariant sound_steps
 
 -- a world that stands for a trace, and whose roles keep what the book says, is strictly serializable
@@ -50,9 +50,9 @@ strictly_serializable config steps given system stands keep = record {
 
 -- where a world stands for a trace, it then stands for that trace with the next step and its answer
 pub serializable-step : (config : Config) (steps : List Step) (given : List (Result Answered Refusal))
-    (old new : System) (taken : Step) (answer : Result Answered Refusal)
-    → IsStep old.state taken answer new.state → RolesKeep new → IsTraceOf config steps given old.state
-    → IsStrictlySerializable config (steps ++ taken ∷ []) (given ++ answer ∷ []) new
-serializable-step config steps given old new taken answer stepped keep stands =
-    strictly_serializable config (steps ++ taken ∷ []) (given ++ answer ∷ []) new
-    (run-push (first_state config) old.state new.state steps given taken answer stands stepped) keep
+    (old new : System) (one_step : Step) (answer : Result Answered Refusal)
+    → IsStep old.state one_step answer new.state → RolesKeep new → IsTraceOf config steps given old.state
+    → IsStrictlySerializable config (steps ++ one_step ∷ []) (given ++ answer ∷ []) new
+serializable-step config steps given old new one_step answer stepped keep stands =
+    strictly_serializable config (steps ++ one_step ∷ []) (given ++ answer ∷ []) new
+    (run-push (first_state config) old.state new.state steps given one_step answer stands stepped) keep

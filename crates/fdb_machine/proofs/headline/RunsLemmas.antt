@@ -63,8 +63,8 @@ machine-step old step result new stepped = ⊎_elim
     by_use true (Err why) answer left = inr (Failed, answer, left)
 
 -- of a run's first step the machine is left so
-pub run-next : (old new : State) (taken : Step) (answer : Result Answered Refusal) (steps : List Step)
-    (answers : List (Result Answered Refusal)) → IsRun old (taken ∷ steps) (answer ∷ answers) new
-    → (mid : State) × IsMachineStep old.machine taken answer mid.machine × IsRun mid steps answers new
-run-next old new taken answer steps answers ran =
-    (ran.0, machine-step old taken answer ran.0 ran.1, ran.2)
+pub run-next : (old new : State) (one_step : Step) (answer : Result Answered Refusal) (steps : List Step)
+    (answers : List (Result Answered Refusal)) → IsRun old (one_step ∷ steps) (answer ∷ answers) new
+    → (mid : State) × IsMachineStep old.machine one_step answer mid.machine × IsRun mid steps answers new
+run-next old new one_step answer steps answers ran =
+    (ran.0, machine-step old one_step answer ran.0 ran.1, ran.2)

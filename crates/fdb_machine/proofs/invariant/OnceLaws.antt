@@ -188,7 +188,7 @@ module _ (id : TxnId) where
   -- every step keeps it
   pub once_steps : KeptBySteps (IsOnce id)
   once_steps = record {
-    roles = λ m taken answer resolvers logs shards quiet grew went once. once;
+    roles = λ m one_step answer resolvers logs shards quiet grew went once. once;
     asked = λ m session proxy there at free once. (
       session_steps.asked m session proxy there at free once.0,
       changed-once m session Asking m.book m.commit_proxies once.1 (λ same. omega (arith, once.1.stands))
@@ -198,8 +198,8 @@ module _ (id : TxnId) where
       session_steps.granted m proxy there at left once.0,
       granted-once m proxy there at left once,
     );
-    operated = λ m taken session transcript operation does opened once. (
-      session_steps.operated m taken session transcript operation does opened once.0,
+    operated = λ m one_step session transcript operation does opened once. (
+      session_steps.operated m one_step session transcript operation does opened once.0,
       changed-once m session (Open (with_op transcript operation _)) m.book m.commit_proxies once.1
           (λ same. omega (
             arith,
@@ -222,9 +222,9 @@ module _ (id : TxnId) where
       session_steps.sealed m proxy advance commit_proxy at idle few room once.0,
       sealed-once m proxy advance commit_proxy once.1 at,
     );
-    went_on = λ m taken answer proxy commit_proxy stage decided verdicts acknowledgements quiet came at busy goes_on
+    went_on = λ m one_step answer proxy commit_proxy stage decided verdicts acknowledgements quiet came at busy goes_on
         unreported went once. (
-          session_steps.went_on m taken answer proxy commit_proxy stage decided verdicts acknowledgements quiet came
+          session_steps.went_on m one_step answer proxy commit_proxy stage decided verdicts acknowledgements quiet came
               at busy goes_on unreported went once.0,
           with-commit_proxy m proxy commit_proxy _ once.1 at refl,
         );

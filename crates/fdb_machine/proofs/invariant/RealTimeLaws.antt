@@ -5,11 +5,11 @@ use Rattle.std.specs.Prelude.{IfSome}
 use Rattle.std.specs.FinMap.{empty}
 use Rattle.std.specs.List.{AllByRecursion, slice_get, slice_set}
 use Rattle.fdb_keys.specs.declared.refusal.Refusal.{Refusal}
+use Rattle.fdb_keys.proofs.Exports.{all-append, all-weaken}
 use Rattle.fdb_txn.specs.Limits.{place_limit}
 use Rattle.fdb_txn.specs.declared.spot.Spot.{Spot}
 use Rattle.fdb_txn.specs.declared.spot.Spot.TheVariants as spot
 use Rattle.fdb_txn.specs.declared.txn_id.TxnId.{TxnId}
-use Rattle.fdb_txn.proofs.Exports.{all-append, all-weaken}
 use Rattle.fdb_proxy.specs.declared.config.Config.{Config}
 use Rattle.fdb_proxy.specs.declared.outcome.Outcome.{Outcome}
 use Rattle.fdb_proxy.specs.declared.outcome.Outcome.TheVariants as outcome
@@ -197,12 +197,12 @@ module _ (P : Sessions → TxnId → ℕ → Type 0) (low : ℕ) where
 
     kept_steps : KeptBySteps Kept
     kept_steps = record {
-      roles = λ m taken answer resolvers logs shards quiet grew went kept. kept;
+      roles = λ m one_step answer resolvers logs shards quiet grew went kept. kept;
       asked = λ m session proxy there at free kept.
           (kept.0, put-kept m.sessions session Asking m.commit_proxies m.acknowledged kept.1 tt);
       granted = λ m proxy there at left kept.
           (kept.0, served-kept m.committed kept.0 there m.sessions m.commit_proxies m.acknowledged kept.1);
-      operated = λ m taken session transcript operation does opened kept. (
+      operated = λ m one_step session transcript operation does opened kept. (
         kept.0,
         put-kept m.sessions session (Open (with_op transcript operation _)) m.commit_proxies m.acknowledged
             kept.1 (opened-has m kept session transcript opened),
@@ -222,7 +222,8 @@ module _ (P : Sessions → TxnId → ℕ → Type 0) (low : ℕ) where
             all-take _ place_limit commit_proxy.waiting waiting,
           ) in
           (kept.0, (kept.1.0, proxies, kept.1.2));
-      went_on = λ m taken answer proxy commit_proxy stage decided verdicts acknowledgements quiet came at busy goes_on
+      went_on = λ m one_step answer proxy commit_proxy stage decided verdicts acknowledgements quiet came at busy
+          goes_on
           unreported went kept.
           (kept.0, (kept.1.0, set-proxy m kept proxy _ (proxy-has m kept proxy commit_proxy at), kept.1.2));
       reported_version = λ m proxy commit_proxy entry at logging there whole kept. (

@@ -6,6 +6,7 @@ use Rattle.std.specs.List.{AllByRecursion, slice_get}
 use Rattle.std.proofs.lemmas.Bool.{and_parts, eqb-true}
 use Rattle.std.proofs.Math.Nat.{suc-add, add-suc}
 use Rattle.fdb_keys.specs.Points.{Point}
+use Rattle.fdb_keys.proofs.Exports.{all-append, all-weaken}
 use Rattle.fdb_mutations.specs.Maps.{Map}
 use Rattle.fdb_txn.specs.declared.entry.Entry.{Entry}
 use Rattle.fdb_txn.specs.declared.spot.Spot.{Spot}
@@ -17,7 +18,7 @@ use Rattle.fdb_txn.specs.book.Places.{place_in, place_of, place_at}
 use Rattle.fdb_txn.specs.rules.Admission.{is_fresh, committed}
 use Rattle.fdb_txn.specs.book.History.{IsHistory, AreEntries}
 use Rattle.fdb_txn.specs.rules.SerialMap.{serial_map, serial_map_at}
-use Rattle.fdb_txn.proofs.Exports.{all-append, all-weaken, add_places-newer, places_are_history, earlier_maps_stay}
+use Rattle.fdb_txn.proofs.Exports.{add_places-newer, places_are_history, earlier_maps_stay}
 use Rattle.fdb_txn.proofs.Exports.{reads_stand}
 use Rattle.fdb_proxy.specs.declared.outcome.Outcome.{Outcome}
 use Rattle.fdb_proxy.specs.declared.outcome.Outcome.TheVariants as outcome

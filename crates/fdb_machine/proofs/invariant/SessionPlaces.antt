@@ -248,11 +248,11 @@ with-none_idle m proxy new none all = all-set HasNoneIdle m.commit_proxies proxy
 -- every step keeps it
 pub session_steps : KeptBySteps AllStand
 session_steps = record {
-  roles = λ m taken answer resolvers logs shards quiet grew went all. all;
+  roles = λ m one_step answer resolvers logs shards quiet grew went all. all;
   asked = λ m asker proxy there at free all.
       (λ session. asked-stands session m asker proxy there at free (all.0 session), all.1);
   granted = λ m proxy there at left all. (λ session. granted-stands session m proxy there at (all.0 session), all.1);
-  operated = λ m taken client transcript operation does opened all. (
+  operated = λ m one_step client transcript operation does opened all. (
     λ session. opened-stands session m client transcript (Open (with_op transcript operation _)) opened
         (all.0 session)
         (λ same. open-own m client transcript (all.0 client) opened ∙ same) refl,
@@ -270,7 +270,7 @@ session_steps = record {
         (all-at HasNoneIdle m.commit_proxies proxy commit_proxy all.1 at (ap is_idle idle)) (all.0 session),
     with-none_idle m proxy (sealed_proxy m commit_proxy) (λ idle. cc) all,
   );
-  went_on = λ m taken answer proxy commit_proxy stage decided verdicts acknowledgements quiet came at busy goes_on
+  went_on = λ m one_step answer proxy commit_proxy stage decided verdicts acknowledgements quiet came at busy goes_on
       unreported went all. (
         λ session. with-commit_proxy session m proxy commit_proxy _ at refl (all.0 session),
         with-none_idle m proxy _ (λ idle. cc) all,

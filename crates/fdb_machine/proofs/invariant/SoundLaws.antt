@@ -3,12 +3,13 @@ use Rattle.std.proofs.Common.{◌≡◌, refl, sym, ◌∙◌, ap, subst, arith,
 use Rattle.std.proofs.Common.{true, false, List, [], ◌∷◌, take, map, length, Some, Result}
 use Rattle.std.specs.List.{AllByRecursion, slice_get, slice_set}
 use Rattle.fdb_keys.specs.declared.refusal.Refusal.{Refusal}
+use Rattle.fdb_keys.proofs.Exports.{all-append, all-weaken}
 use Rattle.fdb_txn.specs.Limits.{place_limit}
 use Rattle.fdb_txn.specs.declared.entry.Entry.{Entry}
 use Rattle.fdb_txn.specs.declared.entry.Move.{Move}
 use Rattle.fdb_txn.specs.declared.txn_id.TxnId.{TxnId}
 use Rattle.fdb_txn.specs.book.Book.{last_version}
-use Rattle.fdb_txn.proofs.Exports.{all-append, all-weaken, entries_go_on}
+use Rattle.fdb_txn.proofs.Exports.{entries_go_on}
 use Rattle.fdb_proxy.specs.declared.config.Config.{Config}
 use Rattle.fdb_client.specs.declared.program.Transcript.{Transcript}
 use Rattle.fdb_client.specs.TxnState.{with_op}
@@ -190,9 +191,9 @@ sound-reported m proxy commit_proxy entry sound at busy there once = record {
 -- every step keeps a machine sound
 pub sound_steps : KeptBySteps Invariant
 sound_steps = record {
-  roles = λ m taken answer resolvers logs shards quiet grew went sound.
+  roles = λ m one_step answer resolvers logs shards quiet grew went sound.
       same_book m sound sound.opened sound.commit_proxies sound.acknowledged sound.reported
-      (λ id. (once_steps id).roles m taken answer resolvers logs shards quiet grew went (sound.once id));
+      (λ id. (once_steps id).roles m one_step answer resolvers logs shards quiet grew went (sound.once id));
   asked = λ m session proxy there at free sound.
       same_book m sound (open-put (IsReplied m) m.sessions session Asking sound.opened tt) sound.commit_proxies
       sound.acknowledged sound.reported
@@ -202,12 +203,12 @@ sound_steps = record {
       (open-served (IsReplied m) m.committed (λ id. (le_refl m.committed, refl)) there m.sessions sound.opened)
       sound.commit_proxies sound.acknowledged sound.reported
       (λ id. (once_steps id).granted m proxy there at left (sound.once id));
-  operated = λ m taken session transcript operation does opened sound.
+  operated = λ m one_step session transcript operation does opened sound.
       same_book m sound
       (open-put (IsReplied m) m.sessions session (Open (with_op transcript operation _)) sound.opened
       (told-push m transcript operation _ refl (opened-at m sound session transcript opened)))
       sound.commit_proxies sound.acknowledged sound.reported
-      (λ id. (once_steps id).operated m taken session transcript operation does opened (sound.once id));
+      (λ id. (once_steps id).operated m one_step session transcript operation does opened (sound.once id));
   read_only = λ m session proxy transcript opened empty sound.
       let told = opened-at m sound session transcript opened in
       same_book m sound (open-put (IsReplied m) m.sessions session Idle sound.opened tt) sound.commit_proxies
@@ -225,14 +226,14 @@ sound_steps = record {
       (λ id. (once_steps id).submitted m session proxy commit_proxy transcript at opened writes (sound.once id));
   sealed = λ m proxy advance commit_proxy at idle few room sound. sound-sealed m proxy advance commit_proxy sound at
       (λ id. (once_steps id).sealed m proxy advance commit_proxy at idle few room (sound.once id));
-  went_on = λ m taken answer proxy commit_proxy stage decided verdicts acknowledgements quiet came at busy goes_on
+  went_on = λ m one_step answer proxy commit_proxy stage decided verdicts acknowledgements quiet came at busy goes_on
       unreported went sound.
       let was = commit_proxy-at m sound proxy commit_proxy at in
       let flies = was.2 busy in
       same_book m sound sound.opened
       (with-commit_proxy m sound proxy _ (was.0, was.1, λ _. (flies.0, flies.1, flies.2, λ reported. cc)))
       sound.acknowledged sound.reported
-      (λ id. (once_steps id).went_on m taken answer proxy commit_proxy stage decided verdicts acknowledgements quiet
+      (λ id. (once_steps id).went_on m one_step answer proxy commit_proxy stage decided verdicts acknowledgements quiet
       came at busy goes_on unreported went (sound.once id));
   reported_version = λ m proxy commit_proxy entry at logging there whole sound. sound-reported m proxy commit_proxy
       entry sound at (ap is_idle logging) there

@@ -55,7 +55,7 @@ operation_of (step.GetRange session range limit is_reverse snapshot) =
 operation_of (step.Write session mutation) = Some (session, op.Write mutation)
 operation_of (step.AddRead session range) = Some (session, op.AddRead range)
 operation_of (step.AddWrite session range) = Some (session, op.AddWrite range)
-operation_of taken = None
+operation_of one_step = None
 
 -- the step is one of a role that tells clients nothing
 abbrev pub is_quiet : Step → Bool
@@ -67,15 +67,16 @@ is_quiet (step.Logged i log) = true
 is_quiet (step.Pull shard limit) = true
 is_quiet (step.Forget shard version) = true
 is_quiet (step.Pop shard) = true
-is_quiet taken = false
+is_quiet one_step = false
 
 -- What accepted steps do, by the fields that they change. The relation is between the machine, the step with its
 -- answer, and the machine after the step.
 pub record HoldsOfSteps (R : Machine → Step → Answered → Machine → Type 0) : Type 0 where
   -- resolvers, logs and shards went on (Resolve, Push, Pull, Forget, Pop)
-  pub roles : (m : Machine) (taken : Step) (answer : Answered) (resolvers logs : List ℕ) (shards : List ShardProgress)
-      → is_quiet taken ≡ true → Grew m.logs logs → RoleWent m taken answer resolvers logs shards
-      → R m taken answer (record m { resolvers = resolvers; logs = logs; shards = shards })
+  pub roles : (m : Machine) (one_step : Step) (answer : Answered) (resolvers logs : List ℕ)
+      (shards : List ShardProgress)
+      → is_quiet one_step ≡ true → Grew m.logs logs → RoleWent m one_step answer resolvers logs shards
+      → R m one_step answer (record m { resolvers = resolvers; logs = logs; shards = shards })
   -- a session that neither asks nor waits asks (Ask)
   pub asked : (m : Machine) (session proxy : ℕ) (there : List ℕ) → slice_get m.grv_proxies proxy ≡ Some there
       → is_busy (session_of m.sessions session).state ≡ false
@@ -91,11 +92,11 @@ pub record HoldsOfSteps (R : Machine → Step → Answered → Machine → Type 
         grv_proxies = slice_set m.grv_proxies proxy [];
       })
   -- an operation went to a session's open transaction, with its reply (Get, GetRange, Write, AddRead, AddWrite)
-  pub operated : (m : Machine) (taken : Step) (session : ℕ) (transcript : Transcript) (operation : Op)
-      → operation_of taken ≡ Some (session, operation) → open_at m.sessions session ≡ Some transcript
+  pub operated : (m : Machine) (one_step : Step) (session : ℕ) (transcript : Transcript) (operation : Op)
+      → operation_of one_step ≡ Some (session, operation) → open_at m.sessions session ≡ Some transcript
       → let there = serial_map_at m.config.resolver_splits transcript.read_version (seen_of m.book).places in
       let reply = reply_on (copy there (program transcript.ops)) operation in
-      R m taken (answered_by reply) (add_operation m session transcript operation reply)
+      R m one_step (answered_by reply) (add_operation m session transcript operation reply)
   -- a session's transaction that writes nothing is acknowledged (Submit)
   pub read_only : (m : Machine) (session proxy : ℕ) (transcript : Transcript)
       → open_at m.sessions session ≡ Some transcript → is_read_only transcript ≡ true
@@ -124,14 +125,14 @@ pub record HoldsOfSteps (R : Machine → Step → Answered → Machine → Type 
       (sealed_machine m proxy advance commit_proxy)
   -- a proxy went on with its batch, which isn't reported; of logs those acknowledged it that took its entry (Verdict,
   -- Decide, Logged)
-  pub went_on : (m : Machine) (taken : Step) (answer : Answered) (proxy : ℕ) (commit_proxy : CommitProxy)
+  pub went_on : (m : Machine) (one_step : Step) (answer : Answered) (proxy : ℕ) (commit_proxy : CommitProxy)
       (stage : Stage) (decided verdicts_received acknowledgements_received : List Bool)
-      → is_quiet taken ≡ true
+      → is_quiet one_step ≡ true
       → AcknowledgementCame m.logs commit_proxy stage acknowledgements_received
       → slice_get m.commit_proxies proxy ≡ Some commit_proxy → is_idle commit_proxy.stage ≡ false
       → is_idle stage ≡ false → is_reported stage ≡ false
-      → ProxyWent m taken answer proxy commit_proxy stage decided verdicts_received acknowledgements_received
-      → R m taken answer (record m {
+      → ProxyWent m one_step answer proxy commit_proxy stage decided verdicts_received acknowledgements_received
+      → R m one_step answer (record m {
         decided = decided;
         commit_proxies = slice_set m.commit_proxies proxy (record commit_proxy {
           stage = stage;
@@ -180,43 +181,43 @@ stage-is Reported = (λ is. cc, λ is. cc, λ is. cc, λ is. refl)
 module _ (R : Machine → Step → Answered → Machine → Type 0) (holds : HoldsOfSteps R) where
   -- between the machine and where a step takes it
   abbrev Leads : Machine → Step → Transition → Type 0
-  Leads m taken transition = R m taken transition.answer transition.next
+  Leads m one_step transition = R m one_step transition.answer transition.next
 
   -- what a proxy waits for comes
-  received : (m : Machine) (taken : Step) (proxy : ℕ) (commit_proxy : CommitProxy) (i : ℕ) (sender : Sender)
-      → is_quiet taken ≡ true → slice_get m.commit_proxies proxy ≡ Some commit_proxy
+  received : (m : Machine) (one_step : Step) (proxy : ℕ) (commit_proxy : CommitProxy) (i : ℕ) (sender : Sender)
+      → is_quiet one_step ≡ true → slice_get m.commit_proxies proxy ≡ Some commit_proxy
       → awaits commit_proxy i sender ≡ true
       → (has : ℕ) → taken_by_sender m sender ≡ Some has → nat_le has i ≡ false
-      → ProxyWent m taken answered.Done proxy commit_proxy commit_proxy.stage m.decided
+      → ProxyWent m one_step answered.Done proxy commit_proxy commit_proxy.stage m.decided
       (with_received commit_proxy sender).verdicts_received
       (with_received commit_proxy sender).acknowledgements_received
-      → R m taken answered.Done
+      → R m one_step answered.Done
       (record m { commit_proxies = slice_set m.commit_proxies proxy (with_received commit_proxy sender) })
-  received m taken proxy commit_proxy i (FromResolver resolver) quiet at awaited has there later went =
+  received m one_step proxy commit_proxy i (FromResolver resolver) quiet at awaited has there later went =
       let stage = (stage-is commit_proxy.stage).1 (and_parts _ _ (and_parts _ _ awaited).0).0 in
-      holds.went_on m taken answered.Done proxy commit_proxy commit_proxy.stage m.decided _ _ quiet
+      holds.went_on m one_step answered.Done proxy commit_proxy commit_proxy.stage m.decided _ _ quiet
       (inl (ap is_logging stage)) at
       (ap is_idle stage) (ap is_idle stage) (ap is_reported stage) went
-  received m taken proxy commit_proxy i (FromLog log) quiet at awaited has there later went =
+  received m one_step proxy commit_proxy i (FromLog log) quiet at awaited has there later went =
       let parts = and_parts _ _ (and_parts _ _ awaited).0 in
       let stage = (stage-is commit_proxy.stage).2 parts.0 in
       let its : commit_proxy.entry ≡ i = eqb-true commit_proxy.entry i parts.1 in
       let after : commit_proxy.entry < has = let above = leb-false has i later in omega (arith, its, above) in
-      holds.went_on m taken answered.Done proxy commit_proxy commit_proxy.stage m.decided _ _ quiet
+      holds.went_on m one_step answered.Done proxy commit_proxy commit_proxy.stage m.decided _ _ quiet
       (inr (inr (ap is_logging stage, log, has, there, after, refl))) at (ap is_idle stage) (ap is_idle stage)
       (ap is_reported stage) went
 
   -- an operation that reads goes to the session's open transaction
-  reads-operated : (m : Machine) (taken : Step) (session : ℕ) (operation : Op)
-      → operation_of taken ≡ Some (session, operation) → IfAccepted (Leads m taken) (reads m session operation)
+  reads-operated : (m : Machine) (one_step : Step) (session : ℕ) (operation : Op)
+      → operation_of one_step ≡ Some (session, operation) → IfAccepted (Leads m one_step) (reads m session operation)
   unfolding reads
-  reads-operated m taken session operation is =
+  reads-operated m one_step session operation is =
       past-open _ (open_at m.sessions session) _ (λ transcript opened.
       past-fault _ (fault_after m transcript operation) _
-      (λ _. holds.operated m taken session transcript operation is opened))
+      (λ _. holds.operated m one_step session transcript operation is opened))
 
   -- it holds of every accepted step
-  pub holds-next : (m : Machine) (taken : Step) → IfAccepted (Leads m taken) (next m taken)
+  pub holds-next : (m : Machine) (one_step : Step) → IfAccepted (Leads m one_step) (next m one_step)
   unfolding asks grants writes adds_read adds_write submits seals resolves receives decides pushes reports answers
       pulls forgets pops moves
   holds-next m (step.Ask session proxy) =
@@ -404,12 +405,13 @@ module _ (R : Machine → Step → Answered → Machine → Type 0) (holds : Hol
 
 -- What steps keep.
 abbrev pub KeptBySteps : (Machine → Type 0) → Type 0
-KeptBySteps P = HoldsOfSteps (λ m taken answer after. P m → P after)
+KeptBySteps P = HoldsOfSteps (λ m one_step answer after. P m → P after)
 
 module _ (P : Machine → Type 0) (keep : KeptBySteps P) where
   -- every step keeps it, refused ones too
-  pub kept-next : (m : Machine) (taken : Step) → P m → P (after m (next m taken))
-  kept-next m taken = by_result (next m taken) (holds-next (λ m taken answer after. P m → P after) keep m taken)
+  pub kept-next : (m : Machine) (one_step : Step) → P m → P (after m (next m one_step))
+  kept-next m one_step =
+      by_result (next m one_step) (holds-next (λ m one_step answer after. P m → P after) keep m one_step)
     where
       by_result : (result : Result Transition Refusal) → IfAccepted (λ transition. P m → P transition.next) result
           → P m → P (after m result)

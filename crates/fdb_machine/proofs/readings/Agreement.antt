@@ -73,8 +73,8 @@ TellsMachine r m = Tells r m.book m.sessions m.acknowledged m.committed m.pendin
 
 -- what a step tells beside what was told before is what the machine goes on to
 abbrev pub TellsOn : Machine → Step → Answered → Machine → Type 0
-TellsOn m taken answer after =
-    (r : Readings) → Invariant m → TellsMachine r m → TellsMachine (read r taken answer) after
+TellsOn m one_step answer after =
+    (r : Readings) → Invariant m → TellsMachine r m → TellsMachine (read r one_step answer) after
 
 -- how far the roles are is told of no other field
 pub progress-tells : (r : Readings) (p : Progress) (m : Machine) → TellsMachine r m → TellsMachine (goes_on r p) m
@@ -90,8 +90,8 @@ progress-tells r p m tells = record {
 }
 
 -- so a quiet step tells nothing of them
-pub quiet-tells : (r : Readings) (m : Machine) (taken : Step) (answer : Answered) → is_quiet taken ≡ true
-    → TellsMachine r m → TellsMachine (read r taken answer) m
+pub quiet-tells : (r : Readings) (m : Machine) (one_step : Step) (answer : Answered) → is_quiet one_step ≡ true
+    → TellsMachine r m → TellsMachine (read r one_step answer) m
 quiet-tells r m (step.Ask session proxy) answer quiet tells = cc
 quiet-tells r m (step.Grant proxy) answer quiet tells = cc
 quiet-tells r m (step.Get session key snapshot) answer quiet tells = cc
@@ -132,9 +132,9 @@ quiet-tells r m (step.Forget shard least) (answered.Answers told) quiet tells = 
 quiet-tells r m (step.Pop shard) answer quiet tells = tells
 
 -- an operation tells itself, with its reply
-pub operation-tells : (r : Readings) (taken : Step) (session : ℕ) (operation : Op) (there : Map)
-    → operation_of taken ≡ Some (session, operation)
-    → has_done r session operation (reply_on there operation) ≡ read r taken (answered_by (reply_on there operation))
+pub operation-tells : (r : Readings) (one_step : Step) (session : ℕ) (operation : Op) (there : Map)
+    → operation_of one_step ≡ Some (session, operation)
+    → has_done r session operation (reply_on there operation) ≡ read r one_step (answered_by (reply_on there operation))
 operation-tells r (step.Get own key snapshot) session operation there is =
     subst (λ (done : ℕ × Op). has_done r done.0 done.1 (reply_on there done.1)
     ≡ read r (step.Get own key snapshot) (answered_by (reply_on there done.1)))

@@ -345,7 +345,7 @@ module _ (m : Machine) (r : Readings) (has : HasRoles m) (sound : Invariant m) (
         ∙ ap Some first in
         rw (waiting.1, ap is_resolving waiting.2, its-entry.1, least) refl
 
-  due-accepts : (taken : Step) → IsDue m.config r taken → Accepts (next m taken)
+  due-accepts : (one_step : Step) → IsDue m.config r one_step → Accepts (next m one_step)
   due-accepts (step.Resolve i resolver) due = resolver-accepts i resolver due
   due-accepts (step.Verdict i resolver) due = verdict-accepts i resolver due
   due-accepts (step.Decide proxy) due = decision-accepts proxy due.0 due.1 due.2
@@ -369,10 +369,10 @@ module _ (m : Machine) (r : Readings) (has : HasRoles m) (sound : Invariant m) (
 
 -- what holds of the machine and of what is told after a trace, where memory doesn't run out in the next step, and that
 -- uses no role that has failed
-module _ (config : Config) (steps : List Step) (given : List (Result Answered Refusal)) (taken : Step)
+module _ (config : Config) (steps : List Step) (given : List (Result Answered Refusal)) (one_step : Step)
     (result : Result Answered Refusal) (world later : State) (stands : IsTraceOf config steps given world)
-    (stepped : IsStep world taken result later) (ample : ran_out result ≡ false)
-    (works : uses_failed world.machine world.failed taken ≡ false) where
+    (stepped : IsStep world one_step result later) (ample : ran_out result ≡ false)
+    (works : uses_failed world.machine world.failed one_step ≡ false) where
   abbrev before : Machine
   before = machine_of_trace config steps given
 
@@ -380,10 +380,10 @@ module _ (config : Config) (steps : List Step) (given : List (Result Answered Re
   told_before = readings_of steps given
 
   -- it answers what the machine answers
-  answers-so : result ≡ answer_of (next before taken)
+  answers-so : result ≡ answer_of (next before one_step)
   answers-so = ⊎_elim
-      (λ went. went.0 ∙ ap (λ (uses : Bool). answer_of (unless_failed uses (next world.machine taken))) works
-      ∙ ap (λ (n : Machine). answer_of (next n taken)) (traces_tell config steps given world stands))
+      (λ went. went.0 ∙ ap (λ (uses : Bool). answer_of (unless_failed uses (next world.machine one_step))) works
+      ∙ ap (λ (n : Machine). answer_of (next n one_step)) (traces_tell config steps given world stands))
       (λ lacked. let both : true ≡ false = sym (ap ran_out lacked.0) ∙ ample in cc) stepped
 
   config-is : before.config ≡ config
@@ -398,16 +398,16 @@ module _ (config : Config) (steps : List Step) (given : List (Result Answered Re
   tells-roles : TellsRoles told_before before
   tells-roles = trace-tells-roles config steps given world stands
 
-  accepted-where-due : IsDue config told_before taken → (answer : Answered) × (result ≡ Ok answer)
+  accepted-where-due : IsDue config told_before one_step → (answer : Answered) × (result ≡ Ok answer)
   accepted-where-due due =
       let accepts = due-accepts before told_before has-roles (sound-trace config steps given) tells-before tells-roles
-      taken
-      (subst (λ (c : Config). IsDue c told_before taken) (sym config-is) due) in
+      one_step
+      (subst (λ (c : Config). IsDue c told_before one_step) (sym config-is) due) in
       (accepts.0.answer, answers-so ∙ ap answer_of accepts.1)
 
 pub what_is_due_is_accepted : WhatIsDueIsAccepted
-what_is_due_is_accepted config steps given taken result world later stands stepped ample works due =
-    accepted-where-due config steps given taken result world later stands stepped ample works due
+what_is_due_is_accepted config steps given one_step result world later stands stepped ample works due =
+    accepted-where-due config steps given one_step result world later stands stepped ample works due
 
 pub decisions_wait : DecisionsWait
 decisions_wait config steps given proxy resolver result world later stands stepped ample works least =

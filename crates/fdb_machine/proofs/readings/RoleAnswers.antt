@@ -41,8 +41,9 @@ pub record HasRoles (m : Machine) : Type 0 where
   pub logs : length m.logs ≡ m.config.logs
 
 -- a role that goes on adds none
-went-counts : (m : Machine) (taken : Step) (answer : Answered) (resolvers logs : List ℕ) (shards : List ShardProgress)
-    → RoleWent m taken answer resolvers logs shards
+went-counts : (m : Machine) (one_step : Step) (answer : Answered) (resolvers logs : List ℕ)
+    (shards : List ShardProgress)
+    → RoleWent m one_step answer resolvers logs shards
     → (length resolvers ≡ length m.resolvers) × (length logs ≡ length m.logs)
 went-counts m (step.Resolve i resolver) answer resolvers logs shards went = (
   ap (λ (rs : List ℕ). length rs) went.resolvers_are ∙ length-set m.resolvers resolver (suc i),
@@ -88,16 +89,16 @@ same-roles {m = m} {after = after} config resolvers logs has = record
 
 pub roles_stay : KeptBySteps HasRoles
 roles_stay = record {
-  roles = λ m taken answer resolvers logs shards quiet grew went has.
-      let counts = went-counts m taken answer resolvers logs shards went in
+  roles = λ m one_step answer resolvers logs shards quiet grew went has.
+      let counts = went-counts m one_step answer resolvers logs shards went in
       record { resolvers = counts.0 ∙ has.resolvers; logs = counts.1 ∙ has.logs };
   asked = λ m session proxy there at free has. same-roles refl refl refl has;
   granted = λ m proxy there at left has. same-roles refl refl refl has;
-  operated = λ m taken session transcript operation does opened has. same-roles refl refl refl has;
+  operated = λ m one_step session transcript operation does opened has. same-roles refl refl refl has;
   read_only = λ m session proxy transcript opened empty has. same-roles refl refl refl has;
   submitted = λ m session proxy commit_proxy transcript at opened writes has. same-roles refl refl refl has;
   sealed = λ m proxy advance commit_proxy at idle few room has. same-roles refl refl refl has;
-  went_on = λ m taken answer proxy commit_proxy stage decided verdicts acknowledgements quiet came at busy goes_on
+  went_on = λ m one_step answer proxy commit_proxy stage decided verdicts acknowledgements quiet came at busy goes_on
       unreported went has. same-roles refl refl refl has;
   reported_version = λ m proxy commit_proxy entry at logging there whole has. same-roles refl refl refl has;
   moved = λ m range to exists has. same-roles refl refl refl has;
@@ -293,8 +294,8 @@ module _ (m : Machine) (r : Readings) (has : HasRoles m) (sound : Invariant m) (
           (told.shards_told shard pulled.progress pulled.progress_is).3 pulled.has pulled.has_is in
           omega (arith, below, own-is, has-entries shard pulled.progress pulled.progress_is)
 
-  pub role-answered : (taken : Step) (answer : Answered) (resolvers logs : List ℕ) (shards : List ShardProgress)
-      → RoleWent m taken answer resolvers logs shards → IsAnswered m.config r taken answer
+  pub role-answered : (one_step : Step) (answer : Answered) (resolvers logs : List ℕ) (shards : List ShardProgress)
+      → RoleWent m one_step answer resolvers logs shards → IsAnswered m.config r one_step answer
   role-answered (step.Resolve i resolver) answer resolvers logs shards went =
       subst (IsAnswered m.config r (step.Resolve i resolver)) (sym went.answer_is)
       (said-by-rule i went.entry went.entry_is resolver went.its_turn)
@@ -332,11 +333,11 @@ module _ (m : Machine) (r : Readings) (has : HasRoles m) (sound : Invariant m) (
   role-answered (step.Answer proxy) answer resolvers logs shards went = absurd went
   role-answered (step.Move range to) answer resolvers logs shards went = absurd went
 
-  pub proxy-answered : (taken : Step) (answer : Answered) (proxy : ℕ) (commit_proxy : CommitProxy) (stage : Stage)
+  pub proxy-answered : (one_step : Step) (answer : Answered) (proxy : ℕ) (commit_proxy : CommitProxy) (stage : Stage)
       (decided verdicts acknowledgements : List Bool)
       → slice_get m.commit_proxies proxy ≡ Some commit_proxy
-      → ProxyWent m taken answer proxy commit_proxy stage decided verdicts acknowledgements
-      → IsAnswered m.config r taken answer
+      → ProxyWent m one_step answer proxy commit_proxy stage decided verdicts acknowledgements
+      → IsAnswered m.config r one_step answer
   proxy-answered (step.Verdict i resolver) answer proxy commit_proxy stage decided verdicts acknowledgements at went =
       verdicts-due i resolver proxy answer commit_proxy stage decided verdicts acknowledgements at went
   proxy-answered (step.Decide own) answer proxy commit_proxy stage decided verdicts acknowledgements at went =

@@ -33,8 +33,8 @@ use Rattle.fdb_machine.specs.declared.step.Step.TheVariants as step
 
 -- what a step tells beside what was told before is how far the machine's roles go
 abbrev pub RolesTellOn : Machine → Step → Answered → Machine → Type 0
-RolesTellOn m taken answer after =
-    (r : Readings) → Invariant m → TellsMachine r m → TellsRoles r m → TellsRoles (read r taken answer) after
+RolesTellOn m one_step answer after =
+    (r : Readings) → Invariant m → TellsMachine r m → TellsRoles r m → TellsRoles (read r one_step answer) after
 
 -- ---- resolvers, logs and shards
 
@@ -246,9 +246,10 @@ popped-told m shard answer resolvers logs shards r popped told =
     was : ShardTold r.progress m.book m.logs shard popped.progress
     was = told.shards_told shard popped.progress popped.progress_is
 
-roles-tell : (m : Machine) (taken : Step) (answer : Answered) (resolvers logs : List ℕ) (shards : List ShardProgress)
-    (r : Readings) → RoleWent m taken answer resolvers logs shards → TellsRoles r m
-    → RolesTold (read r taken answer).progress m.book m.entry_proxies m.decided m.commit_proxies resolvers logs shards
+roles-tell : (m : Machine) (one_step : Step) (answer : Answered) (resolvers logs : List ℕ) (shards : List ShardProgress)
+    (r : Readings) → RoleWent m one_step answer resolvers logs shards → TellsRoles r m
+    → RolesTold (read r one_step answer).progress m.book m.entry_proxies m.decided m.commit_proxies resolvers logs
+    shards
 roles-tell m (step.Resolve i resolver) answer resolvers logs shards r went told =
     resolver-told m i resolver answer resolvers logs shards r.progress went told
 roles-tell m (step.Push i log) answer resolvers logs shards r went told =
@@ -556,11 +557,11 @@ decided-told m own answer proxy commit_proxy stage decided verdicts acknowledgem
         let within = entry-within m p commit_proxy.entry proxy told own_entry in
         within-item m.decided commit_proxy.entry (omega (arith, within, told.each_has_flag))
 
-proxies-tell : (m : Machine) (taken : Step) (answer : Answered) (proxy : ℕ) (commit_proxy : CommitProxy)
+proxies-tell : (m : Machine) (one_step : Step) (answer : Answered) (proxy : ℕ) (commit_proxy : CommitProxy)
     (stage : Stage) (decided verdicts acknowledgements : List Bool) (r : Readings)
-    → ProxyWent m taken answer proxy commit_proxy stage decided verdicts acknowledgements
+    → ProxyWent m one_step answer proxy commit_proxy stage decided verdicts acknowledgements
     → slice_get m.commit_proxies proxy ≡ Some commit_proxy → TellsRoles r m
-    → RolesTold (read r taken answer).progress m.book m.entry_proxies decided
+    → RolesTold (read r one_step answer).progress m.book m.entry_proxies decided
     (slice_set m.commit_proxies proxy (record commit_proxy
     { stage = stage; verdicts_received = verdicts; acknowledgements_received = acknowledgements }))
     m.resolvers m.logs m.shards
@@ -738,26 +739,26 @@ stage-at m p proxy commit_proxy stage told at is =
 
 pub roles_tell_steps : HoldsOfSteps RolesTellOn
 roles_tell_steps = record {
-  roles = λ m taken answer resolvers logs shards quiet grew went r sound tells told.
-      roles-tell m taken answer resolvers logs shards r went told;
+  roles = λ m one_step answer resolvers logs shards quiet grew went r sound tells told.
+      roles-tell m one_step answer resolvers logs shards r went told;
   asked = λ m session proxy there at free r sound tells told. told;
   granted = λ m proxy there at left r sound tells told.
       subst (λ (p : Progress). RolesTold p m.book m.entry_proxies m.decided m.commit_proxies m.resolvers m.logs
       m.shards)
       (sym (begins-progress (map (λ (session : ℕ). (session, m.committed)) there) r)) told;
-  operated = λ m taken session transcript operation does opened r sound tells told.
+  operated = λ m one_step session transcript operation does opened r sound tells told.
       subst (λ (p : Progress). RolesTold p m.book m.entry_proxies m.decided m.commit_proxies m.resolvers m.logs
       m.shards)
-      (ap (λ (now : Readings). now.progress) (operation-tells r taken session operation _ does)) told;
+      (ap (λ (now : Readings). now.progress) (operation-tells r one_step session operation _ does)) told;
   read_only = λ m session proxy transcript opened empty r sound tells told. told;
   submitted = λ m session proxy commit_proxy transcript at opened writes r sound tells told.
       same-flags m r.progress r.progress proxy commit_proxy _ told at refl (λ other differs. refl)
       (told.proxies_told proxy commit_proxy at);
   sealed = λ m proxy advance commit_proxy at idle few room r sound tells told.
       sealed-tells m proxy advance 0 commit_proxy r.progress at idle told;
-  went_on = λ m taken answer proxy commit_proxy stage decided verdicts acknowledgements quiet came at busy goes_on
+  went_on = λ m one_step answer proxy commit_proxy stage decided verdicts acknowledgements quiet came at busy goes_on
       unreported went r sound tells told.
-      proxies-tell m taken answer proxy commit_proxy stage decided verdicts acknowledgements r went at told;
+      proxies-tell m one_step answer proxy commit_proxy stage decided verdicts acknowledgements r went at told;
   reported_version = λ m proxy commit_proxy entry at logging there whole r sound tells told.
       let was = stage-at m r.progress proxy commit_proxy Logging told at logging in
       same-flags m r.progress (record r.progress { logging = with_at proxy None r.progress.logging }) proxy

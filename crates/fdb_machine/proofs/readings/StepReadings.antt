@@ -227,8 +227,8 @@ batch-at r m proxy commit_proxy entry tells at busy there =
 
 pub tells_steps : HoldsOfSteps TellsOn
 tells_steps = record {
-  roles = λ m taken answer resolvers logs shards quiet grew went r sound tells.
-      quiet-tells r m taken answer quiet tells;
+  roles = λ m one_step answer resolvers logs shards quiet grew went r sound tells.
+      quiet-tells r m one_step answer quiet tells;
   asked = λ m session proxy there at free r sound tells.
       with-clients r m (others_than session r.opened) (with_state m.sessions session Asking) _ _ _ _ tells
       (others-told r.opened m.sessions tells.opened_told session Asking refl)
@@ -244,11 +244,11 @@ tells_steps = record {
           able session m.sessions there left some,
         ),
       ));
-  operated = λ m taken session transcript operation does opened r sound tells.
+  operated = λ m one_step session transcript operation does opened r sound tells.
       let on = copy (serial_map_at m.config.resolver_splits transcript.read_version (seen_of m.book).places)
       (program transcript.ops) in
       let after = add_operation m session transcript operation (reply_on on operation) in
-      subst (λ (told : Readings). TellsMachine told after) (operation-tells r taken session operation on does)
+      subst (λ (told : Readings). TellsMachine told after) (operation-tells r one_step session operation on does)
       (with-clients r m (with_one_more session operation (reply_on on operation) r.opened) after.sessions _ _ _ _ tells
       (more-told r.opened m.sessions tells.opened_told session transcript operation (reply_on on operation) opened)
       (numbers-put r.begun m.sessions session (Open (with_op transcript operation (reply_on on operation)))
@@ -265,7 +265,7 @@ tells_steps = record {
   sealed = λ m proxy advance commit_proxy at idle few room r sound tells.
       sealed-told r m proxy advance commit_proxy tells at idle;
   went_on =
-      λ m taken answer proxy commit_proxy stage decided verdicts acknowledgements quiet came at busy goes_on
+      λ m one_step answer proxy commit_proxy stage decided verdicts acknowledgements quiet came at busy goes_on
       unreported went r sound tells.
       let was = tells.proxies_told proxy commit_proxy at in
       quiet-tells r (record m {
@@ -274,7 +274,7 @@ tells_steps = record {
           verdicts_received = verdicts;
           acknowledgements_received = acknowledgements;
         });
-      }) taken answer quiet
+      }) one_step answer quiet
       (proxy-goes_on r m proxy commit_proxy _ at tells
       (record { waiting_told = was.waiting_told; batch_told = λ _. was.batch_told busy })
       (λ entry. rw (goes_on, busy) (le_refl _)));

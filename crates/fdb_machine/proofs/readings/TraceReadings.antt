@@ -47,52 +47,53 @@ use Rattle.fdb_machine.specs.declared.step.Answered.{Answered}
 use Rattle.fdb_machine.specs.declared.step.Step.{Step}
 
 -- a step that is answered as the machine answers it tells what the machine goes on to
-step-tells : (m : Machine) (r : Readings) (taken : Step) → Invariant m → TellsMachine r m
-    → TellsMachine (read_step r taken (answer_of (next m taken))) (after m (next m taken))
-step-tells m r taken sound tells = by_result (next m taken) (holds-next TellsOn tells_steps m taken)
+step-tells : (m : Machine) (r : Readings) (one_step : Step) → Invariant m → TellsMachine r m
+    → TellsMachine (read_step r one_step (answer_of (next m one_step))) (after m (next m one_step))
+step-tells m r one_step sound tells = by_result (next m one_step) (holds-next TellsOn tells_steps m one_step)
   where
     by_result : (result : Result Transition Refusal)
-        → IfAccepted (λ transition. TellsOn m taken transition.answer transition.next) result
-        → TellsMachine (read_step r taken (answer_of result)) (after m result)
+        → IfAccepted (λ transition. TellsOn m one_step transition.answer transition.next) result
+        → TellsMachine (read_step r one_step (answer_of result)) (after m result)
     by_result (Ok transition) leads = leads r sound tells
     by_result (Err refusal) leads = tells
 
 -- what is told of the machine, and stays so with each step, is told after the steps of a run
 module _ (T : Readings → Machine → Type 0)
-    (goes : (m : Machine) (r : Readings) (taken : Step) → Invariant m → T r m
-    → T (read_step r taken (answer_of (next m taken))) (after m (next m taken))) where
+    (goes : (m : Machine) (r : Readings) (one_step : Step) → Invariant m → T r m
+    → T (read_step r one_step (answer_of (next m one_step))) (after m (next m one_step))) where
   run-tells : (old : State) (r : Readings) (steps : List Step) (given : List (Result Answered Refusal)) (world : State)
       → Invariant old.machine → T r old.machine → IsRun old steps given world
       → T (read_steps r steps given) (after_steps old.machine steps given)
   run-tells old r [] [] world sound tells ran = tells
   run-tells old r [] (answer ∷ given) world sound tells ran = absurd ran
-  run-tells old r (taken ∷ steps) [] world sound tells ran = absurd ran
-  run-tells old r (taken ∷ steps) (answer ∷ given) world sound tells ran =
-      let first = run-next old world taken answer steps given ran in
+  run-tells old r (one_step ∷ steps) [] world sound tells ran = absurd ran
+  run-tells old r (one_step ∷ steps) (answer ∷ given) world sound tells ran =
+      let first = run-next old world one_step answer steps given ran in
       let one = went first.0.machine first.1 in
-      subst (λ (m : Machine). T (read_steps (read_step r taken answer) steps given) (after_steps m steps given)) one.2
-      (run-tells first.0 (read_step r taken answer) steps given world one.0 one.1 first.2)
+      subst (λ (m : Machine). T (read_steps (read_step r one_step answer) steps given)
+      (after_steps m steps given)) one.2
+      (run-tells first.0 (read_step r one_step answer) steps given world one.0 one.1 first.2)
     where
       m : Machine
       m = old.machine
 
       -- the machine after the step is sound and told, and is the one to which the answer takes it
-      went : (mid : Machine) → IsMachineStep m taken answer mid
-          → Invariant mid × T (read_step r taken answer) mid × (mid ≡ after_step m taken answer)
+      went : (mid : Machine) → IsMachineStep m one_step answer mid
+          → Invariant mid × T (read_step r one_step answer) mid × (mid ≡ after_step m one_step answer)
       went mid step = ⊎_elim
           (λ goes_on. (
-            subst Invariant (sym goes_on.1) (kept-next Invariant sound_steps m taken sound),
-            subst (T (read_step r taken answer)) (sym goes_on.1)
-                (subst (λ (a : Result Answered Refusal). T (read_step r taken a) (after m (next m taken)))
-                (sym goes_on.0) (goes m r taken sound tells)),
-            goes_on.1 ∙ sym (ap (after_step m taken) goes_on.0
-                ∙ after_step-answered m taken (next m taken) refl),
+            subst Invariant (sym goes_on.1) (kept-next Invariant sound_steps m one_step sound),
+            subst (T (read_step r one_step answer)) (sym goes_on.1)
+                (subst (λ (a : Result Answered Refusal). T (read_step r one_step a) (after m (next m one_step)))
+                (sym goes_on.0) (goes m r one_step sound tells)),
+            goes_on.1 ∙ sym (ap (after_step m one_step) goes_on.0
+                ∙ after_step-answered m one_step (next m one_step) refl),
           ))
           (λ refused. (
             subst Invariant (sym refused.2) sound,
-            subst (T (read_step r taken answer)) (sym refused.2)
-                (subst (λ (a : Result Answered Refusal). T (read_step r taken a) m) (sym refused.1) tells),
-            refused.2 ∙ ap (after_step m taken) (sym refused.1),
+            subst (T (read_step r one_step answer)) (sym refused.2)
+                (subst (λ (a : Result Answered Refusal). T (read_step r one_step a) m) (sym refused.1) tells),
+            refused.2 ∙ ap (after_step m one_step) (sym refused.1),
           ))
           step
 
@@ -100,14 +101,16 @@ module _ (T : Readings → Machine → Type 0)
 abbrev TellsAll : Readings → Machine → Type 0
 TellsAll r m = TellsMachine r m × TellsRoles r m
 
-all-tells : (m : Machine) (r : Readings) (taken : Step) → Invariant m → TellsAll r m
-    → TellsAll (read_step r taken (answer_of (next m taken))) (after m (next m taken))
-all-tells m r taken sound told =
-    (step-tells m r taken sound told.0, by_result (next m taken) (holds-next RolesTellOn roles_tell_steps m taken))
+all-tells : (m : Machine) (r : Readings) (one_step : Step) → Invariant m → TellsAll r m
+    → TellsAll (read_step r one_step (answer_of (next m one_step))) (after m (next m one_step))
+all-tells m r one_step sound told = (
+  step-tells m r one_step sound told.0,
+  by_result (next m one_step) (holds-next RolesTellOn roles_tell_steps m one_step),
+)
   where
     by_result : (result : Result Transition Refusal)
-        → IfAccepted (λ transition. RolesTellOn m taken transition.answer transition.next) result
-        → TellsRoles (read_step r taken (answer_of result)) (after m result)
+        → IfAccepted (λ transition. RolesTellOn m one_step transition.answer transition.next) result
+        → TellsRoles (read_step r one_step (answer_of result)) (after m result)
     by_result (Ok transition) leads = leads r sound told.0 told.1
     by_result (Err refusal) leads = told.1
 
@@ -178,22 +181,22 @@ trace-tells-roles config steps given world stands =
 -- the configuration stays
 config_steps : (config : Config) → KeptBySteps (λ m. m.config ≡ config)
 config_steps config = record {
-  roles = λ m taken answer resolvers logs shards quiet grew went same. same;
+  roles = λ m one_step answer resolvers logs shards quiet grew went same. same;
   asked = λ m session proxy there at free same. same;
   granted = λ m proxy there at left same. same;
-  operated = λ m taken session transcript operation does opened same. same;
+  operated = λ m one_step session transcript operation does opened same. same;
   read_only = λ m session proxy transcript opened empty same. same;
   submitted = λ m session proxy commit_proxy transcript at opened writes same. same;
   sealed = λ m proxy advance commit_proxy at idle few room same. same;
-  went_on = λ m taken answer proxy commit_proxy stage decided verdicts acknowledgements quiet came at busy goes_on
+  went_on = λ m one_step answer proxy commit_proxy stage decided verdicts acknowledgements quiet came at busy goes_on
       unreported went same. same;
   reported_version = λ m proxy commit_proxy entry at logging there whole same. same;
   moved = λ m range to exists same. same;
   told = λ m proxy commit_proxy entry at reported there same. same;
 }
 
-pub config-after : (m : Machine) (taken : Step) → (after m (next m taken)).config ≡ m.config
-config-after m taken = kept-next (λ n. n.config ≡ m.config) (config_steps m.config) m taken refl
+pub config-after : (m : Machine) (one_step : Step) → (after m (next m one_step)).config ≡ m.config
+config-after m one_step = kept-next (λ n. n.config ≡ m.config) (config_steps m.config) m one_step refl
 
 pub config-kept : (config : Config) (steps : List Step) (given : List (Result Answered Refusal))
     → (machine_of_trace config steps given).config ≡ config
@@ -274,8 +277,8 @@ run-first : (n : ℕ) (old : State) (steps : List Step) (given : List (Result An
 run-first zero old steps given world ran = (old, refl)
 run-first (suc n) old [] [] world ran = (old, refl)
 run-first (suc n) old [] (answer ∷ given) world ran = absurd ran
-run-first (suc n) old (taken ∷ steps) [] world ran = absurd ran
-run-first (suc n) old (taken ∷ steps) (answer ∷ given) world ran =
+run-first (suc n) old (one_step ∷ steps) [] world ran = absurd ran
+run-first (suc n) old (one_step ∷ steps) (answer ∷ given) world ran =
     let rest = run-first n ran.0 steps given world ran.2 in (rest.0, (ran.0, ran.1, rest.1))
 
 -- the number of the last of those that began is below how many they are

@@ -17,11 +17,11 @@ told_by count lines = readings_of (take count (steps_of lines)) (take count (ans
 
 -- after so many lines of the script the step isn't answered so
 abbrev pub IsNoAnswer : List Line → ℕ → Step → Answered → Type 0
-IsNoAnswer lines count taken answer = IsAnswered (parted_at_m 1) (told_by count lines) taken answer → ⊥
+IsNoAnswer lines count one_step answer = IsAnswered (parted_at_m 1) (told_by count lines) one_step answer → ⊥
 
 -- after so many lines of the script the step is due
 abbrev pub IsDueAfter : List Line → ℕ → Step → Type 0
-IsDueAfter lines count taken = IsDue (parted_at_m 1) (told_by count lines) taken
+IsDueAfter lines count one_step = IsDue (parted_at_m 1) (told_by count lines) one_step
 
 -- Neither a version that is older than the greatest reported one, nor another version, number or count than the next
 -- entry has, nor one that a shard doesn't come to, nor a floor that sinks or that the shard hasn't reached.

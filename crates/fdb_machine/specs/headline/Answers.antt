@@ -212,7 +212,8 @@ module _ (config : Config) (r : Readings) where
 -- over every trace each accepted step is answered so
 abbrev pub AnsweredByTheTrace : Type 0
 AnsweredByTheTrace =
-    (config : Config) (steps : List Step) (answers : List (Result Answered Refusal)) (taken : Step) (answer : Answered)
+    (config : Config) (steps : List Step) (answers : List (Result Answered Refusal)) (one_step : Step)
+    (answer : Answered)
     (world : State)
-    → IsTraceOf config (steps ++ taken ∷ []) (answers ++ Ok answer ∷ []) world
-    → IsAnswered config (readings_of steps answers) taken answer
+    → IsTraceOf config (steps ++ one_step ∷ []) (answers ++ Ok answer ∷ []) world
+    → IsAnswered config (readings_of steps answers) one_step answer

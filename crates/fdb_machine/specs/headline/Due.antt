@@ -37,7 +37,7 @@ module _ (config : Config) (r : Readings) where
       (entry : ℕ) × (r.progress.resolving proxy ≡ Some entry) × CameBelow entry (suc (length config.resolver_splits))
   IsDue (step.Push entry log) = IsPushed config r entry log
   IsDue (step.Logged entry log) = IsAcknowledgementDue config r entry log
-  IsDue taken = ⊥
+  IsDue one_step = ⊥
 
   -- the proxy waits for verdicts on an entry, and the least resolver that is asked about it and whose verdicts didn't
   -- come is this one
@@ -54,11 +54,11 @@ module _ (config : Config) (r : Readings) where
 -- After every trace a step that is due is accepted, unless memory runs out in it or it uses a role that has failed.
 abbrev pub WhatIsDueIsAccepted : Type 0
 WhatIsDueIsAccepted =
-    (config : Config) (steps : List Step) (answers : List (Result Answered Refusal)) (taken : Step)
+    (config : Config) (steps : List Step) (answers : List (Result Answered Refusal)) (one_step : Step)
     (result : Result Answered Refusal) (world later : State)
-    → IsTraceOf config steps answers world → IsStep world taken result later
-    → ran_out result ≡ false → uses_failed world.machine world.failed taken ≡ false
-    → IsDue config (readings_of steps answers) taken → (answer : Answered) × (result ≡ Ok answer)
+    → IsTraceOf config steps answers world → IsStep world one_step result later
+    → ran_out result ≡ false → uses_failed world.machine world.failed one_step ≡ false
+    → IsDue config (readings_of steps answers) one_step → (answer : Answered) × (result ≡ Ok answer)
 
 -- And a proxy whose verdicts haven't all come is told to wait for the least resolver of which they are missing.
 abbrev pub DecisionsWait : Type 0

@@ -127,14 +127,14 @@ abbrev pub RangeReadsRefused : Type 0
 RangeReadsRefused =
     (m : Machine) (session : ℕ) (range : Range) (limit : ℕ) (is_reverse snapshot : Bool) (transcript : Transcript)
     → open_at m.sessions session ≡ Some transcript
-    → let taken = step.GetRange session range limit is_reverse snapshot in
+    → let one_step = step.GetRange session range limit is_reverse snapshot in
     let version = transcript.read_version in
-    ((next m taken ≡ Err TransactionTooOld) ↔ AtSomePoint range (Forgot m version))
+    ((next m one_step ≡ Err TransactionTooOld) ↔ AtSomePoint range (Forgot m version))
     × (length m.shards ≡ suc (length m.config.shard_splits)
-    → (next m taken ≡ Err FutureVersion)
+    → (next m one_step ≡ Err FutureVersion)
     ↔ ((¬ AtSomePoint range (Forgot m version)) × AtSomePoint range (Lags m version)))
-    × (((transition : Transition) × (next m taken ≡ Ok transition)) ↔ AtEachPoint range (Serves m version))
-    × (is_empty_range range ≡ true → (transition : Transition) × (next m taken ≡ Ok transition))
+    × (((transition : Transition) × (next m one_step ≡ Ok transition)) ↔ AtEachPoint range (Serves m version))
+    × (is_empty_range range ≡ true → (transition : Transition) × (next m one_step ≡ Ok transition))
 
 -- every log, by how many entries each took, has taken the entry of the spot
 abbrev pub IsTakenByAll : List ℕ → Spot → Type 0

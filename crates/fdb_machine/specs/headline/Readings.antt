@@ -255,14 +255,14 @@ read r (step.Move range to) answer = record r { pending = r.pending ++ record { 
 
 -- a refused step tells nothing
 abbrev pub read_step : Readings → Step → Result Answered Refusal → Readings
-read_step r taken (Ok answer) = read r taken answer
-read_step r taken (Err refusal) = r
+read_step r one_step (Ok answer) = read r one_step answer
+read_step r one_step (Err refusal) = r
 
 -- what steps with their answers tell, one after another
 abbrev pub read_steps : Readings → List Step → List (Result Answered Refusal) → Readings
 read_steps r [] answers = r
-read_steps r (taken ∷ steps) [] = r
-read_steps r (taken ∷ steps) (answer ∷ answers) = read_steps (read_step r taken answer) steps answers
+read_steps r (one_step ∷ steps) [] = r
+read_steps r (one_step ∷ steps) (answer ∷ answers) = read_steps (read_step r one_step answer) steps answers
 
 -- what a trace tells
 abbrev pub readings_of : List Step → List (Result Answered Refusal) → Readings

@@ -11,7 +11,7 @@ use Rattle.fdb_txn.specs.rules.Splits.{piece}
 use Rattle.fdb_txn.specs.declared.entry.Entry.{Entry}
 use Rattle.fdb_resolver.specs.declared.part.Part.{Part}
 use Rattle.fdb_resolver.specs.Resolvers.{Resolver}
-use Rattle.fdb_sequencer.specs.Moves.{Dated}
+use Rattle.fdb_sequencer.specs.declared.dated.Dated.{Dated}
 use Rattle.fdb_sequencer.specs.Sequencer.{Sequencer, accept_fault, unlearnt_by}
 use Rattle.fdb_sequencer.specs.declared.ticket.Ticket.{Ticket}
 use Rattle.fdb_log.specs.declared.message.LogMsg.{LogMsg}

@@ -3,7 +3,7 @@
 ghost use Rattle.std.specs.Prelude.{◌<◌};
 
 use crate::random::acts::{Act, Change, Span};
-use crate::script::operation::Operation;
+use crate::script::operation::{OPERATIONS, Operation};
 use fdb_core::{Answered, InFlight, World};
 use fdb_keys::Refusal;
 use rand_core::Rng;
@@ -22,20 +22,6 @@ const SHARDS: u32 = 2;
 const SESSIONS: u32 = 8;
 
 const KEYS: u32 = 8;
-
-/// The operations that a transaction writes.
-const OPERATIONS: [Operation; 10] = [
-    Operation::Set,
-    Operation::Add,
-    Operation::And,
-    Operation::Or,
-    Operation::Xor,
-    Operation::Max,
-    Operation::Min,
-    Operation::ByteMin,
-    Operation::ByteMax,
-    Operation::CompareAndClear,
-];
 
 #[derive(Drop)]
 pub struct Drawing {

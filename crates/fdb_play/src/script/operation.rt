@@ -22,7 +22,7 @@ pub enum Operation {
 }
 
 /// All such kinds.
-const OPERATIONS: [Operation; 10] = [
+pub(crate) const OPERATIONS: [Operation; 10] = [
     Operation::Set,
     Operation::Add,
     Operation::And,

@@ -1,11 +1,11 @@
+use crate::known_front::KnownFront;
 use crate::name::ClusterName;
-use crate::sealed_front::SealedFront;
 use std::marker::Model;
 
 /// What a session is told when it begins: a committed version, with a front that reaches it.
 #[derive(Drop)]
 pub(crate) struct GrantMessage<B: ClusterName> {
-    pub(crate) front: SealedFront<B>,
+    pub(crate) front: KnownFront<B>,
     pub(crate) committed: u64,
 }
 

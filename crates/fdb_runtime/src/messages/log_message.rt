@@ -1,12 +1,12 @@
+use crate::known_front::KnownFront;
 use crate::name::ClusterName;
-use crate::sealed_front::SealedFront;
 use fdb_log::LogMsg;
 use std::marker::Model;
 
 /// What a log is sent: its message of the last entry of the front.
 #[derive(Drop)]
 pub(crate) struct LogMessage<B: ClusterName> {
-    pub(crate) front: SealedFront<B>,
+    pub(crate) front: KnownFront<B>,
     pub(crate) message: LogMsg,
 }
 

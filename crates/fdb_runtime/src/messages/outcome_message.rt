@@ -1,12 +1,12 @@
+use crate::known_front::KnownFront;
 use crate::name::ClusterName;
-use crate::sealed_front::SealedFront;
 use fdb_proxy::Outcome;
 use std::marker::Model;
 
 /// What a session is told of its transaction: what became of a place of the front's last entry.
 #[derive(Drop)]
 pub(crate) struct OutcomeMessage<B: ClusterName> {
-    pub(crate) front: SealedFront<B>,
+    pub(crate) front: KnownFront<B>,
     pub(crate) place: u32,
     pub(crate) outcome: Outcome,
 }

@@ -1,12 +1,12 @@
+use crate::known_front::KnownFront;
 use crate::name::ClusterName;
-use crate::sealed_front::SealedFront;
 use fdb_resolver::Part;
 use std::marker::Model;
 
 /// What a resolver is sent: its part of the last entry of the front.
 #[derive(Drop)]
 pub(crate) struct PartMessage<B: ClusterName> {
-    pub(crate) front: SealedFront<B>,
+    pub(crate) front: KnownFront<B>,
     pub(crate) part: Part,
 }
 

@@ -1,12 +1,12 @@
+use crate::known_front::KnownFront;
 use crate::name::ClusterName;
-use crate::sealed_front::SealedFront;
 use fdb_log::Peek;
 use std::marker::Model;
 
 /// What a log gives a shard of its tag after a version, with the front that the log took.
 #[derive(Drop)]
 pub(crate) struct PeekMessage<B: ClusterName> {
-    pub(crate) front: SealedFront<B>,
+    pub(crate) front: KnownFront<B>,
     pub(crate) peek: Peek,
 }
 

@@ -1,12 +1,12 @@
+use crate::known_front::KnownFront;
 use crate::name::ClusterName;
-use crate::sealed_front::SealedFront;
 use fdb_resolver::Verdicts;
 use std::marker::Model;
 
 /// What a resolver answers: what the rule says of its part of the last entry of the front.
 #[derive(Drop)]
 pub(crate) struct VerdictMessage<B: ClusterName> {
-    pub(crate) front: SealedFront<B>,
+    pub(crate) front: KnownFront<B>,
     pub(crate) verdicts: Verdicts,
 }
 

@@ -7,11 +7,12 @@ ghost use Rattle.fdb_proxy.specs.CommitProxies.{seal_fault, sealing, unsealing, 
 ghost use Rattle.fdb_proxy.specs.CommitProxies.{parts_fault, parts_in, with_verdict};
 ghost use Rattle.fdb_proxy.specs.CommitProxies.{decide_fault, deciding, messages_fault, messages_of, done_fault};
 ghost use Rattle.fdb_proxy.specs.CommitProxies.{answers_in, finishing};
-ghost use Rattle.fdb_runtime.specs.CommitProxiesAtFronts.{hear_fault, AreLastParts, AreLastMessages, AreOutcomes};
+ghost use Rattle.fdb_runtime.specs.CommitProxiesAtFronts.{verdict_fault, AreLastParts, AreLastMessages, AreOutcomes};
 ghost use Rattle.fdb_runtime.specs.Messages.{IsLastPart, IsLastMessage};
 ghost use Rattle.fdb_runtime.specs.Receipts.{IsOutcome};
 ghost use Rattle.fdb_runtime.specs.Ticketing.{AnswersTicket, LeftByTicket};
 
+use crate::known_front::KnownFront;
 use crate::making::beside;
 use crate::messages::log_message::LogMessage;
 use crate::messages::outcome_message::OutcomeMessage;
@@ -19,7 +20,6 @@ use crate::messages::part_message::PartMessage;
 use crate::messages::verdict_message::VerdictMessage;
 use crate::name::ClusterName;
 use crate::roles::commit_proxy::ticketing::is_ticket_of;
-use crate::sealed_front::SealedFront;
 use fdb_book::Book;
 use fdb_keys::{Items, Refusal, Refused};
 use fdb_log::{LogAck, LogMsg};
@@ -35,8 +35,8 @@ pub(crate) mod ticketing;
 /// A commit proxy, which has the entries of its front. The last one is that of its last ticket.
 #[derive(Drop)]
 pub(crate) struct CommitProxyAt<B: ClusterName> {
-    front: SealedFront<B>,
-    core: CommitCore,
+    front: KnownFront<B>,
+    state: CommitCore,
 }
 
 impl<B: ClusterName> Model for CommitProxyAt<B> {
@@ -44,9 +44,9 @@ impl<B: ClusterName> Model for CommitProxyAt<B> {
 
     ghost Value = { CommitProxyAtFront };
 
-    ghost view = { λ at. record { front = at.front; core = at.core } };
+    ghost view = { λ at. record { front = at.front; state = at.state } };
 
-    ghost invariant = { λ at. IsThere B.config at.front at.core.proxy };
+    ghost invariant = { λ at. IsThere B.config at.front at.state.proxy };
 }
 
 impl<B: ClusterName> CommitProxyAt<B> {
@@ -60,100 +60,100 @@ impl<B: ClusterName> CommitProxyAt<B> {
     ) -> Result<Self, Refusal>
         requires { config.now ≡ B.config }
         ensures { Answers result (new_fault index config.now)
-            (λ at. (at.front ≡ []) × IsNewProxy index config.now at.core.proxy) }
+            (λ at. (at.front ≡ []) × IsNewProxy index config.now at.state.proxy) }
     {
-        let core = CommitCore::new(alloc, index, config)?;
-        let (core, front) = beside(core, SealedFront::empty(alloc, book))?;
-        Ok(CommitProxyAt { front, core })
+        let state = CommitCore::new(alloc, index, config)?;
+        let (state, front) = beside(state, KnownFront::empty(alloc, book))?;
+        Ok(CommitProxyAt { front, state })
     }
 
     /// Takes a request, which waits for a batch after those that wait already. It takes no memory where there is room
     /// for one more. Refused as `Failed`, as `Repeated` where a request of its id is in flight or waits, with the place
     /// of that one, and as `NoMemory`. A refusal hands the request back, and nothing changes but the room.
     pub(crate) fn submit(&mut self, sealed: Sealed) -> Result<(), Refused<Sealed>>
-        ensures answers { AnswersOrHandsBack result sealed (submit_fault self.old.core.proxy sealed)
-            (λ _. self.new.core.proxy ≡ submitting self.old.core.proxy sealed) }
-        ensures room { 1 ≤ self.old.core.spare → AnswersExactlyOrHandsBack result sealed
-            (submit_fault self.old.core.proxy sealed) (λ _. ⊤) }
-        ensures refused { OnErr result (self.new.core.proxy ≡ self.old.core.proxy) }
+        ensures answers { AnswersOrHandsBack result sealed (submit_fault self.old.state.proxy sealed)
+            (λ _. self.new.state.proxy ≡ submitting self.old.state.proxy sealed) }
+        ensures room { 1 ≤ self.old.state.spare → AnswersExactlyOrHandsBack result sealed
+            (submit_fault self.old.state.proxy sealed) (λ _. ⊤) }
+        ensures refused { OnErr result (self.new.state.proxy ≡ self.old.state.proxy) }
         ensures front { self.new.front ≡ self.old.front }
     {
-        self.core.submit(sealed)
+        self.state.submit(sealed)
     }
 
     /// The first 4,096 of those that wait, in order, become the batch in flight, all of them where there are no more.
     /// Answers it, and shares its transactions. Refused as `Failed`, as `WrongState` where a batch is in flight
     /// already, and as `NoMemory`, and then nothing changes but the room.
     pub(crate) fn seal(&mut self) -> Result<Batch, Refusal>
-        ensures answers { Answers result (seal_fault self.old.core.proxy)
-            (λ batch. (batch ≡ take place_limit self.old.core.proxy.waiting)
-            × (self.new.core.proxy ≡ sealing self.old.core.proxy)) }
-        ensures refused { OnErr result (self.new.core.proxy ≡ self.old.core.proxy) }
+        ensures answers { Answers result (seal_fault self.old.state.proxy)
+            (λ batch. (batch ≡ take place_limit self.old.state.proxy.waiting)
+            × (self.new.state.proxy ≡ sealing self.old.state.proxy)) }
+        ensures refused { OnErr result (self.new.state.proxy ≡ self.old.state.proxy) }
         ensures front { self.new.front ≡ self.old.front }
     {
-        self.core.seal()
+        self.state.seal()
     }
 
     /// Gives up a sealed batch, which has no entry yet: its requests wait again, before all others. At every other
     /// stage nothing changes but the room. It takes no memory, and O(1) time.
     pub(crate) fn unseal(&mut self)
-        ensures proxy { self.new.core.proxy ≡ unsealing self.old.core.proxy }
+        ensures proxy { self.new.state.proxy ≡ unsealing self.old.state.proxy }
         ensures front { self.new.front ≡ self.old.front }
     {
-        self.core.unseal();
+        self.state.unseal();
     }
 
     /// Drops those that wait, and answers their ids in order. Those in flight stay and aren't named. It takes no
     /// memory, and O(n) time for n requests, ranges and mutations that are dropped.
     pub(crate) fn refuse_all(&mut self) -> Items<TxnId>
-        ensures ids { result ≡ map (λ (t : Transaction). t.id) self.old.core.proxy.waiting }
-        ensures left { self.new.core.proxy ≡ record self.old.core.proxy { waiting = [] } }
+        ensures ids { result ≡ map (λ (t : Transaction). t.id) self.old.state.proxy.waiting }
+        ensures left { self.new.state.proxy ≡ record self.old.state.proxy { waiting = [] } }
         ensures front { self.new.front ≡ self.old.front }
     {
-        self.core.refuse_all()
+        self.state.refuse_all()
     }
 
     /// The proxy has failed from now on. It takes no memory, and O(1) time.
     pub(crate) fn fail(&mut self)
-        ensures proxy { self.new.core.proxy ≡ record self.old.core.proxy { is_failed = true } }
+        ensures proxy { self.new.state.proxy ≡ record self.old.state.proxy { is_failed = true } }
         ensures front { self.new.front ≡ self.old.front }
     {
-        self.core.fail();
+        self.state.fail();
     }
 
     /// Takes a log's acknowledgement. It takes no memory. Refused as `Failed`, and as `Stale` unless the batch waits
     /// for it; then nothing changes.
     pub(crate) fn logged(&mut self, ack: LogAck) -> Result<(), Refusal>
-        ensures answers { AnswersExactly result (logged_fault self.old.core.proxy ack)
-            (λ _. self.new.core.proxy ≡ with_logged self.old.core.proxy ack) }
+        ensures answers { AnswersExactly result (logged_fault self.old.state.proxy ack)
+            (λ _. self.new.state.proxy ≡ with_logged self.old.state.proxy ack) }
         ensures front { self.new.front ≡ self.old.front }
-        ensures refused { OnErr result (self.new.core.proxy ≡ self.old.core.proxy) }
+        ensures refused { OnErr result (self.new.state.proxy ≡ self.old.state.proxy) }
     {
-        self.core.logged(ack)
+        self.state.logged(ack)
     }
 
     /// Whether a request waits for a batch. It takes no memory, and O(1) time.
     pub(crate) fn waits(&self) -> bool
-        ensures { result ≡ not (length self.now.core.proxy.waiting == 0) }
+        ensures { result ≡ not (length self.now.state.proxy.waiting == 0) }
     {
-        self.core.waits()
+        self.state.waits()
     }
 
     /// How many requests are in the batch in flight, 0 where there is none. It takes no memory, and O(1) time.
     pub(crate) fn in_flight(&self) -> usize
-        ensures { result ≡ length self.now.core.proxy.batch }
+        ensures { result ≡ length self.now.state.proxy.batch }
     {
-        self.core.batch().len()
+        self.state.batch().len()
     }
 
     /// What each resolver is asked about the batch, one part for each of them in order: its part of the front's last
     /// entry. Refused as `Failed`, as `WrongState` unless the batch waits for verdicts, and as `NoMemory`.
     pub(crate) fn parts(&self) -> Result<Items<Part>, Refusal>
-        ensures answers { Answers result (parts_fault self.now.core.proxy)
-            (λ parts. parts ≡ parts_in self.now.core.proxy.stage) }
+        ensures answers { Answers result (parts_fault self.now.state.proxy)
+            (λ parts. parts ≡ parts_in self.now.state.proxy.stage) }
         ensures sent { IfOk result (AreLastParts B.config self.now.front) }
     {
-        self.core.parts()
+        self.state.parts()
     }
 
     /// What the resolver of a part is sent: the part, with a share of the front. Refused only as `NoMemory`.
@@ -167,41 +167,41 @@ impl<B: ClusterName> CommitProxyAt<B> {
 
     /// Takes a resolver's verdicts. It takes no memory. Refused as `Stale` where they come with a front of another
     /// length than the own one, else as `CommitCore::verdict` refuses them; then nothing changes.
-    pub(crate) fn hear(&mut self, message: VerdictMessage<B>) -> Result<(), Refusal>
-        ensures answers { AnswersExactly result (hear_fault self.old.front self.old.core.proxy message)
-            (λ _. self.new.core.proxy ≡ with_verdict self.old.core.proxy message.verdicts) }
+    pub(crate) fn verdict(&mut self, message: VerdictMessage<B>) -> Result<(), Refusal>
+        ensures answers { AnswersExactly result (verdict_fault self.old.front self.old.state.proxy message)
+            (λ _. self.new.state.proxy ≡ with_verdict self.old.state.proxy message.verdicts) }
         ensures front { self.new.front ≡ self.old.front }
         ensures refused { OnErr result (self.new ≡ self.old) }
     {
         if message.front.len() != self.front.len() {
             return Err(Refusal::Stale);
         }
-        self.front.agree(&message.front);
-        self.core.verdict(message.verdicts)
+        self.front.know_one_book(&message.front);
+        self.state.verdict(message.verdicts)
     }
 
     /// Decides the batch by the verdicts that came. Refused as `Failed`, as `WrongState` unless the batch waits for
     /// verdicts, as `NotYet` with the least resolver that is asked about some place and whose verdicts haven't come,
     /// and as `NoMemory`. Then nothing changes.
     pub(crate) fn decide(&mut self) -> Result<(), Refusal>
-        ensures answers { Answers result (decide_fault self.old.core.proxy)
-            (λ _. self.new.core.proxy ≡ deciding self.old.core.proxy) }
+        ensures answers { Answers result (decide_fault self.old.state.proxy)
+            (λ _. self.new.state.proxy ≡ deciding self.old.state.proxy) }
         ensures front { self.new.front ≡ self.old.front }
         ensures refused { OnErr result (self.new ≡ self.old) }
     {
-        let _ = self.front.front();
-        let _outcomes = self.core.decide()?;
+        self.front.know_entries();
+        let _outcomes = self.state.decide()?;
         Ok(())
     }
 
     /// The message of the batch for each log: that of the front's last entry. Refused as `Failed`, as `WrongState`
     /// unless the batch is decided and isn't done, and as `NoMemory`.
     pub(crate) fn messages(&self) -> Result<Items<LogMsg>, Refusal>
-        ensures answers { Answers result (messages_fault self.now.core.proxy)
-            (λ messages. messages ≡ messages_of self.now.core.proxy) }
+        ensures answers { Answers result (messages_fault self.now.state.proxy)
+            (λ messages. messages ≡ messages_of self.now.state.proxy) }
         ensures sent { IfOk result (AreLastMessages B.config self.now.front) }
     {
-        self.core.messages()
+        self.state.messages()
     }
 
     /// What a log is sent: its message, with a share of the front. Refused only as `NoMemory`.
@@ -217,14 +217,14 @@ impl<B: ClusterName> CommitProxyAt<B> {
     /// says of the front's last entry. The next batch may be sealed. It takes no memory. Refused as `Failed`, and as
     /// `WrongState` unless all logs have acknowledged the batch. Then nothing changes.
     pub(crate) fn done(&mut self) -> Result<Items<(TxnId, Outcome)>, Refusal>
-        ensures answers { AnswersExactly result (done_fault self.old.core.proxy) (λ answers.
-            (answers ≡ answers_in self.old.core.proxy.stage)
-            × (self.new.core.proxy ≡ finishing self.old.core.proxy)) }
+        ensures answers { AnswersExactly result (done_fault self.old.state.proxy) (λ answers.
+            (answers ≡ answers_in self.old.state.proxy.stage)
+            × (self.new.state.proxy ≡ finishing self.old.state.proxy)) }
         ensures told { IfOk result (AreOutcomes B.config self.old.front) }
         ensures front { self.new.front ≡ self.old.front }
-        ensures refused { OnErr result (self.new.core.proxy ≡ self.old.core.proxy) }
+        ensures refused { OnErr result (self.new.state.proxy ≡ self.old.state.proxy) }
     {
-        self.core.done()
+        self.state.done()
     }
 
     /// What the session of a place of the front's last entry is told: what became of it, with a share of the front.
@@ -255,20 +255,20 @@ impl<B: ClusterName> CommitProxyAt<B> {
     /// entries behind the own front; and as `WrongState` unless a batch is sealed. Then nothing changes but the room. A
     /// ticket that was learnt before is unknown, so none is `Stale`. Refused as `NoMemory` too: then the proxy has
     /// failed, and keeps the batch, whose entry stands. It takes O(n) time for n ranges and mutations of the batch,
-    /// moves of the ticket, and entries behind the own front, beside what the core takes.
-    pub(crate) fn learn(&mut self, ticket: &Ticket, front: SealedFront<B>) -> Result<(), Refusal>
-        ensures answers { AnswersTicket result self.old.front front self.old.core.proxy ticket.now }
+    /// moves of the ticket, and entries behind the own front, beside what the state takes.
+    pub(crate) fn learn(&mut self, ticket: &Ticket, front: KnownFront<B>) -> Result<(), Refusal>
+        ensures answers { AnswersTicket result self.old.front front self.old.state.proxy ticket.now }
         ensures left { LeftByTicket result self.old ticket.now front self.new }
     {
-        if self.core.is_failed() {
+        if self.state.is_failed() {
             return Err(Refusal::Failed);
         }
-        if !is_ticket_of(&self.front, &front, self.core.batch(), ticket) {
+        if !is_ticket_of(&self.front, &front, self.state.batch(), ticket) {
             return Err(Refusal::Unknown);
         }
-        self.front.agree(&front);
-        let _ = front.front();
-        self.core.learn(ticket)?;
+        self.front.know_one_book(&front);
+        front.know_entries();
+        self.state.learn(ticket)?;
         self.front = front;
         Ok(())
     }

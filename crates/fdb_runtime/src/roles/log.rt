@@ -4,10 +4,10 @@ ghost use Rattle.fdb_log.specs.Logs.{IsNewLog, config_fault, push_fault, tag_fau
 ghost use Rattle.fdb_log.specs.Logs.{HasFailed, HasPopped};
 ghost use Rattle.fdb_runtime.specs.Turns.{front_fault, AnswersInTurn};
 
+use crate::known_front::KnownFront;
 use crate::messages::log_message::LogMessage;
 use crate::messages::peek_message::PeekMessage;
 use crate::name::ClusterName;
-use crate::sealed_front::SealedFront;
 use fdb_book::Book;
 use fdb_keys::Refusal;
 use fdb_log::{LogAck, LogCore};
@@ -17,8 +17,8 @@ use std::marker::Model;
 /// A log, which took the entries of its front.
 #[derive(Drop)]
 pub(crate) struct LogAt<B: ClusterName> {
-    front: SealedFront<B>,
-    core: LogCore,
+    front: KnownFront<B>,
+    state: LogCore,
 }
 
 impl<B: ClusterName> Model for LogAt<B> {
@@ -28,10 +28,10 @@ impl<B: ClusterName> Model for LogAt<B> {
 
     ghost Value = { LogAtFront };
 
-    ghost view = { λ at. record { front = at.front; core = at.core } };
+    ghost view = { λ at. record { front = at.front; state = at.state } };
 
-    ghost invariant = { λ at. (at.core.log < B.config.logs)
-        × (at.core.is_failed ≡ false → IsLogAt B.config at.front at.core.log at.core) };
+    ghost invariant = { λ at. (at.state.log < B.config.logs)
+        × (at.state.is_failed ≡ false → IsLogAt B.config at.front at.state.log at.state) };
 }
 
 impl<B: ClusterName> LogAt<B> {
@@ -48,25 +48,25 @@ impl<B: ClusterName> LogAt<B> {
         requires logs { logs ≡ B.config.logs }
         requires tags { tags ≡ suc (length B.config.shard_splits) }
         ensures { Answers result (config_fault log logs tags)
-            (λ at. (at.front ≡ []) × IsNewLog log logs tags at.core) }
+            (λ at. (at.front ≡ []) × IsNewLog log logs tags at.state) }
     {
-        let core = LogCore::new(alloc, log, logs, tags)?;
-        let front = SealedFront::empty(alloc, book)?;
-        Ok(LogAt { front, core })
+        let state = LogCore::new(alloc, log, logs, tags)?;
+        let front = KnownFront::empty(alloc, book)?;
+        Ok(LogAt { front, state })
     }
 
     /// The version of the last entry that it took, 0 at first. It takes no memory, and O(1) time.
     pub(crate) fn version(&self) -> u64
-        ensures { result ≡ self.now.core.last }
+        ensures { result ≡ self.now.state.last }
     {
-        self.core.version()
+        self.state.version()
     }
 
     /// Whether memory ran out in `push`. It takes no memory, and O(1) time.
     pub(crate) fn is_failed(&self) -> bool
-        ensures { result ≡ self.now.core.is_failed }
+        ensures { result ≡ self.now.state.is_failed }
     {
-        self.core.is_failed()
+        self.state.is_failed()
     }
 
     /// Takes its message of the next entry. Refused as `Stale` where it took the message's entry before, as `NotYet`
@@ -75,18 +75,18 @@ impl<B: ClusterName> LogAt<B> {
     /// out for the message: then it has failed. It takes the time of a copy of the message.
     pub(crate) fn push(&mut self, message: &LogMessage<B>) -> Result<LogAck, Refusal>
         ensures answers { AnswersInTurn result (front_fault self.old.front message.now.front)
-            (push_fault self.old.core message.now.message)
-            (λ ack. ack ≡ record { log = self.old.core.log; index = message.now.message.index }) }
+            (push_fault self.old.state message.now.message)
+            (λ ack. ack ≡ record { log = self.old.state.log; index = message.now.message.index }) }
         ensures next { OnOk result (self.new.front ≡ message.now.front) }
-        ensures taken { OnOk result (HasTaken self.old.core message.now.message self.new.core) }
+        ensures taken { OnOk result (HasTaken self.old.state message.now.message self.new.state) }
         ensures other_turn { IsSome (front_fault self.old.front message.now.front) → self.new ≡ self.old }
-        ensures unfit { IsSome (push_fault self.old.core message.now.message) → self.new ≡ self.old }
+        ensures unfit { IsSome (push_fault self.old.state message.now.message) → self.new ≡ self.old }
         ensures refused { OnErr result ((self.new ≡ self.old)
-            ⊎ ((self.new.front ≡ self.old.front) × HasFailed self.old.core self.new.core)) }
+            ⊎ ((self.new.front ≡ self.old.front) × HasFailed self.old.state self.new.state)) }
     {
         self.front.check_next(&message.front)?;
         let front = message.front.share()?;
-        let ack = self.core.push(&message.message)?;
+        let ack = self.state.push(&message.message)?;
         self.front = front;
         Ok(ack)
     }
@@ -96,10 +96,10 @@ impl<B: ClusterName> LogAt<B> {
     /// last entry taken, as `TransactionTooOld` where it is below the one through which the tag was popped, and as
     /// `NoMemory`.
     pub(crate) fn peek(&self, tag: u32, after: u64, limit: u32) -> Result<PeekMessage<B>, Refusal>
-        ensures { Answers result (peek_fault self.now.core tag after)
-            (λ given. (given.front ≡ self.now.front) × (given.peek ≡ peek_of self.now.core tag after limit)) }
+        ensures { Answers result (peek_fault self.now.state tag after)
+            (λ given. (given.front ≡ self.now.front) × (given.peek ≡ peek_of self.now.state tag after limit)) }
     {
-        let peek = self.core.peek(tag, after, limit)?;
+        let peek = self.state.peek(tag, after, limit)?;
         let front = self.front.share()?;
         Ok(PeekMessage { front, peek })
     }
@@ -107,11 +107,11 @@ impl<B: ClusterName> LogAt<B> {
     /// Drops the tag's messages through a version. It takes no memory. Refused as `Failed` once it has failed, and as
     /// `BadConfig` where the tag isn't kept here or the version is above that of the last entry taken.
     pub(crate) fn pop(&mut self, tag: u32, through: u64) -> Result<(), Refusal>
-        ensures answers { AnswersExactly result (tag_fault self.old.core tag through)
-            (λ _. HasPopped self.old.core tag through self.new.core) }
+        ensures answers { AnswersExactly result (tag_fault self.old.state tag through)
+            (λ _. HasPopped self.old.state tag through self.new.state) }
         ensures stays { self.new.front ≡ self.old.front }
         ensures refused { OnErr result (self.new ≡ self.old) }
     {
-        self.core.pop(tag, through)
+        self.state.pop(tag, through)
     }
 }

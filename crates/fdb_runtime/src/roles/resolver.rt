@@ -4,10 +4,10 @@ ghost use Rattle.fdb_txn.specs.book.Book.{last_version};
 ghost use Rattle.fdb_resolver.specs.Resolvers.{part_fault, IsAnswer, HasTaken, HasFailed};
 ghost use Rattle.fdb_runtime.specs.Turns.{front_fault, AnswersInTurn};
 
+use crate::known_front::KnownFront;
 use crate::messages::part_message::PartMessage;
 use crate::messages::verdict_message::VerdictMessage;
 use crate::name::ClusterName;
-use crate::sealed_front::SealedFront;
 use fdb_book::Book;
 use fdb_keys::Refusal;
 use fdb_resolver::ResolverCore;
@@ -17,8 +17,8 @@ use std::marker::Model;
 /// A resolver, which took the entries of its front.
 #[derive(Drop)]
 pub(crate) struct ResolverAt<B: ClusterName> {
-    front: SealedFront<B>,
-    core: ResolverCore,
+    front: KnownFront<B>,
+    state: ResolverCore,
 }
 
 impl<B: ClusterName> Model for ResolverAt<B> {
@@ -28,21 +28,21 @@ impl<B: ClusterName> Model for ResolverAt<B> {
 
     ghost Value = { ResolverAtFront };
 
-    ghost view = { λ at. record { front = at.front; core = at.core } };
+    ghost view = { λ at. record { front = at.front; state = at.state } };
 
-    ghost invariant = { λ at. (at.core.index < suc (length B.config.resolver_splits))
-        × (at.core.is_failed ≡ false → IsResolverAt B.config.resolver_splits at.front at.core.index at.core) };
+    ghost invariant = { λ at. (at.state.index < suc (length B.config.resolver_splits))
+        × (at.state.is_failed ≡ false → IsResolverAt B.config.resolver_splits at.front at.state.index at.state) };
 }
 
 impl<B: ClusterName> ResolverAt<B> {
     /// The resolver with the number, which took nothing. Refused only as `NoMemory`.
     pub(crate) fn new(alloc: Global, book: &Book<B>, index: u32) -> Result<Self, Refusal>
         requires { index < suc (length B.config.resolver_splits) }
-        ensures { Answers result None (λ at. (at.front ≡ []) × (at.core.index ≡ index)) }
+        ensures { Answers result None (λ at. (at.front ≡ []) × (at.state.index ≡ index)) }
     {
         Ok(ResolverAt {
-            front: SealedFront::empty(alloc, book)?,
-            core: ResolverCore::new(alloc, index),
+            front: KnownFront::empty(alloc, book)?,
+            state: ResolverCore::new(alloc, index),
         })
     }
 
@@ -59,19 +59,19 @@ impl<B: ClusterName> ResolverAt<B> {
     /// It stays where it was, unless memory ran out for the verdicts: then it has failed.
     pub(crate) fn take(&mut self, message: &PartMessage<B>) -> Result<VerdictMessage<B>, Refusal>
         ensures answers { AnswersInTurn result (front_fault self.old.front message.now.front)
-            (part_fault self.old.core message.now.part) (λ sent. (sent.front ≡ message.now.front)
-            × IsAnswer self.old.core message.now.part sent.verdicts) }
+            (part_fault self.old.state message.now.part) (λ sent. (sent.front ≡ message.now.front)
+            × IsAnswer self.old.state message.now.part sent.verdicts) }
         ensures next { OnOk result (self.new.front ≡ message.now.front) }
-        ensures taken { IfOk result (λ sent. HasTaken self.old.core message.now.part sent.verdicts self.new.core) }
+        ensures taken { IfOk result (λ sent. HasTaken self.old.state message.now.part sent.verdicts self.new.state) }
         ensures other_turn { IsSome (front_fault self.old.front message.now.front) → self.new ≡ self.old }
-        ensures unfit { IsSome (part_fault self.old.core message.now.part) → self.new ≡ self.old }
+        ensures unfit { IsSome (part_fault self.old.state message.now.part) → self.new ≡ self.old }
         ensures refused { OnErr result ((self.new ≡ self.old)
-            ⊎ ((self.new.front ≡ self.old.front) × HasFailed self.old.core self.new.core)) }
+            ⊎ ((self.new.front ≡ self.old.front) × HasFailed self.old.state self.new.state)) }
     {
         self.front.check_next(&message.front)?;
         let front = message.front.share()?;
         let sent = message.front.share()?;
-        let verdicts = self.core.take(&message.part)?;
+        let verdicts = self.state.take(&message.part)?;
         self.front = front;
         Ok(VerdictMessage {
             front: sent,

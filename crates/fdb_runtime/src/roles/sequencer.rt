@@ -10,8 +10,9 @@ ghost use Rattle.fdb_roles.specs.AtBook.{AreLastOf};
 ghost use Rattle.fdb_roles.specs.Entries.{dated_moves, entry_of};
 ghost use Rattle.fdb_runtime.specs.Issuing.{AnswersIssue};
 
+use crate::known_front::KnownFront;
+use crate::messages::grant_message::GrantMessage;
 use crate::name::ClusterName;
-use crate::sealed_front::SealedFront;
 use fdb_book::Book;
 use fdb_keys::Refusal;
 use fdb_sequencer::{SequencerCore, Ticket};
@@ -19,11 +20,18 @@ use fdb_txn::{Batch, Entry, Move};
 use std::alloc::Global;
 use std::marker::Model;
 
+/// What a commit proxy is given for a batch: its ticket, with the front that has the ticket's entry last.
+#[derive(Drop)]
+pub(crate) struct Issued<B: ClusterName> {
+    pub(crate) ticket: Ticket,
+    pub(crate) front: KnownFront<B>,
+}
+
 /// The sequencer, which accepted the tickets of its front's entries. It alone appends to the book.
 #[derive(Drop)]
 pub(crate) struct SequencerAt<B: ClusterName> {
-    front: SealedFront<B>,
-    core: SequencerCore,
+    front: KnownFront<B>,
+    state: SequencerCore,
 }
 
 impl<B: ClusterName> Model for SequencerAt<B> {
@@ -33,10 +41,10 @@ impl<B: ClusterName> Model for SequencerAt<B> {
 
     ghost Value = { SequencerAtFront };
 
-    ghost view = { λ at. record { front = at.front; core = at.core } };
+    ghost view = { λ at. record { front = at.front; state = at.state } };
 
-    ghost invariant = { λ at. IsSequencerAt at.front at.core × (at.core.proxies ≡ B.config.proxies)
-        × (at.core.resolvers ≡ suc (length B.config.resolver_splits)) };
+    ghost invariant = { λ at. IsSequencerAt at.front at.state × (at.state.proxies ≡ B.config.proxies)
+        × (at.state.resolvers ≡ suc (length B.config.resolver_splits)) };
 }
 
 impl<B: ClusterName> SequencerAt<B> {
@@ -51,11 +59,11 @@ impl<B: ClusterName> SequencerAt<B> {
         requires proxies { proxies ≡ B.config.proxies }
         requires resolvers { resolvers ≡ suc (length B.config.resolver_splits) }
         ensures { Answers result (new_fault proxies resolvers 0)
-            (λ at. at ≡ record { front = []; core = fresh proxies resolvers 0 }) }
+            (λ at. at ≡ record { front = []; state = fresh proxies resolvers 0 }) }
     {
-        let core = SequencerCore::new(alloc, proxies, resolvers, 0)?;
-        let front = SealedFront::empty(alloc, book)?;
-        Ok(SequencerAt { front, core })
+        let state = SequencerCore::new(alloc, proxies, resolvers, 0)?;
+        let front = KnownFront::empty(alloc, book)?;
+        Ok(SequencerAt { front, state })
     }
 
     /// Gives the proxy's batch its entry: plans a ticket, appends the ticket's entry to the book, and accepts the
@@ -73,60 +81,61 @@ impl<B: ClusterName> SequencerAt<B> {
         proxy: u32,
         advance: u64,
         batch: Batch,
-    ) -> Result<(Ticket, SealedFront<B>), Refusal>
-        ensures answers { AnswersIssue result (plan_fault self.old.core proxy advance)
-            (append_fault (length B.cells) self.old.front (entry_of (planned self.old.core proxy advance) batch))
-            (λ issued. (issued.0 ≡ planned self.old.core proxy advance)
-            × (issued.1 ≡ self.old.front ++ entry_of (planned self.old.core proxy advance) batch ∷ [])) }
+    ) -> Result<Issued<B>, Refusal>
+        ensures answers { AnswersIssue result (plan_fault self.old.state proxy advance)
+            (append_fault (length B.cells) self.old.front (entry_of (planned self.old.state proxy advance) batch))
+            (λ issued. (issued.ticket ≡ planned self.old.state proxy advance)
+            × (issued.front ≡ self.old.front ++ entry_of (planned self.old.state proxy advance) batch ∷ [])) }
         ensures accepted { IfOk result (λ issued.
-            self.new ≡ record { front = issued.1; core = accepting self.old.core issued.0 }) }
-        ensures reads { IfOk result (λ issued. (last_version issued.1 ≡ issued.0.version)
-            × AllByRecursion (λ (t : Transaction). t.read < issued.0.version) batch) }
-        ensures moves { IfOk result (λ issued. AreLastOf issued.0.moves (dated_moves issued.1)) }
+            self.new ≡ record { front = issued.front; state = accepting self.old.state issued.ticket }) }
+        ensures reads { IfOk result (λ issued. (last_version issued.front ≡ issued.ticket.version)
+            × AllByRecursion (λ (t : Transaction). t.read < issued.ticket.version) batch) }
+        ensures moves { IfOk result (λ issued. AreLastOf issued.ticket.moves (dated_moves issued.front)) }
         ensures refused { OnErr result (self.new ≡ self.old) }
     {
-        let ticket = self.core.plan(proxy, advance)?;
+        let ticket = self.state.plan(proxy, advance)?;
         let entry = entry_for(alloc, &ticket, batch)?;
-        let share = self.front.append(alloc, book, entry)?;
-        accept(&mut self.core, &ticket);
-        Ok((ticket, share))
+        let front = self.front.append(alloc, book, entry)?;
+        accept(&mut self.state, &ticket);
+        Ok(Issued { ticket, front })
     }
 
     /// The greatest version that was reported. It takes no memory, and O(1) time.
     pub(crate) fn committed(&self) -> u64
-        ensures { result ≡ self.now.core.committed }
+        ensures { result ≡ self.now.state.committed }
     {
-        self.core.committed()
+        self.state.committed()
     }
 
     /// The greatest version that was reported, with a front that reaches it. Refused only as `NoMemory`.
-    pub(crate) fn granted(&self) -> Result<(u64, SealedFront<B>), Refusal>
-        ensures { Answers result None (λ granted. (granted.0 ≡ self.now.core.committed)
-            × (granted.1 ≡ self.now.front) × (granted.0 ≤ last_version granted.1)) }
+    pub(crate) fn granted(&self) -> Result<GrantMessage<B>, Refusal>
+        ensures { Answers result None (λ granted. (granted.committed ≡ self.now.state.committed)
+            × (granted.front ≡ self.now.front) × (granted.committed ≤ last_version granted.front)) }
     {
         let front = self.front.share()?;
-        Ok((self.core.committed(), front))
+        let committed = self.state.committed();
+        Ok(GrantMessage { front, committed })
     }
 
     /// Takes the report that the entries up to the version are committed. It takes no memory. Refused as `BadConfig`
     /// where the version is above the last one that was issued, and then nothing changes.
     pub(crate) fn report(&mut self, version: u64) -> Result<(), Refusal>
-        ensures answers { AnswersExactly result (report_fault self.old.core version)
-            (λ _. self.new ≡ record { front = self.old.front; core = reporting self.old.core version }) }
+        ensures answers { AnswersExactly result (report_fault self.old.state version)
+            (λ _. self.new ≡ record { front = self.old.front; state = reporting self.old.state version }) }
         ensures refused { OnErr result (self.new ≡ self.old) }
     {
-        self.core.report(version)
+        self.state.report(version)
     }
 
     /// Makes a move, which takes effect at the next entry's version. Refused as `BadConfig` where there is no such
     /// resolver or the range is empty, as `MovesFull` after 65,536 moves, and as `NoMemory`. Then nothing changes.
     pub(crate) fn move_to(&mut self, one_move: Move) -> Result<(), Refusal>
-        ensures answers { Answers result (move_fault self.old.core one_move)
-            (λ _. self.new ≡ record { front = self.old.front; core = moving self.old.core one_move }) }
-        ensures resolvers { self.old.core.resolvers ≡ suc (length B.config.resolver_splits) }
+        ensures answers { Answers result (move_fault self.old.state one_move)
+            (λ _. self.new ≡ record { front = self.old.front; state = moving self.old.state one_move }) }
+        ensures resolvers { self.old.state.resolvers ≡ suc (length B.config.resolver_splits) }
         ensures refused { OnErr result (self.new ≡ self.old) }
     {
-        self.core.move_to(one_move)
+        self.state.move_to(one_move)
     }
 }
 
@@ -144,11 +153,11 @@ fn entry_for(alloc: Global, ticket: &Ticket, batch: Batch) -> Result<Entry, Refu
 }
 
 // Accepts the ticket, which was planned just before.
-fn accept(core: &mut SequencerCore, ticket: &Ticket)
-    requires { accept_fault core.old ticket.now ≡ None }
-    ensures { core.new ≡ accepting core.old ticket.now }
+fn accept(state: &mut SequencerCore, ticket: &Ticket)
+    requires { accept_fault state.old ticket.now ≡ None }
+    ensures { state.new ≡ accepting state.old ticket.now }
 {
-    match core.accept(ticket) {
+    match state.accept(ticket) {
         Ok(()) => (),
         Err(_) => unreachable!(),
     }

@@ -6,11 +6,11 @@ ghost use Rattle.fdb_txn.specs.book.History.{AreEntries};
 ghost use Rattle.fdb_txn.specs.rules.Splits.{piece};
 ghost use Rattle.fdb_storage.specs.Shards.{IsNewShard, HasFailed, HasForgotten, forget_fault, read_fault};
 ghost use Rattle.fdb_roles.specs.AtBook.{IsShardAt};
-ghost use Rattle.fdb_runtime.specs.ShardsAtFronts.{peek_fault, shorter_fault, HasGoneOn};
+ghost use Rattle.fdb_runtime.specs.ShardsAtFronts.{peek_fault, shorter_fault, HasGoneOn, IsThere};
 
+use crate::known_front::KnownFront;
 use crate::messages::peek_message::PeekMessage;
 use crate::name::ClusterName;
-use crate::sealed_front::SealedFront;
 use fdb_book::Book;
 use fdb_keys::{KeyRange, Refusal};
 use fdb_storage::Shard;
@@ -22,11 +22,11 @@ pub(crate) mod lent_shards;
 pub(crate) mod reader;
 pub(crate) mod view;
 
-/// A shard, which applied the entries of its front. Its tag is kept beside the core, which doesn't tell it.
+/// A shard, which applied the entries of its front. Its tag is kept beside the state, which doesn't tell it.
 #[derive(Drop)]
 pub(crate) struct ShardAt<B: ClusterName> {
     tag: u32,
-    front: SealedFront<B>,
+    front: KnownFront<B>,
     shard: Shard,
 }
 
@@ -55,7 +55,7 @@ impl<B: ClusterName> ShardAt<B> {
         requires its { range ≡ piece B.config.shard_splits tag }
         ensures { Answers result None (λ at. (at.front ≡ []) × IsNewShard tag range at.shard) }
     {
-        let front = SealedFront::empty(alloc, book)?;
+        let front = KnownFront::empty(alloc, book)?;
         let shard = Shard::new(alloc, tag, range);
         Ok(ShardAt { tag, front, shard })
     }
@@ -66,7 +66,7 @@ impl<B: ClusterName> ShardAt<B> {
         ensures value { result ≡ self.now.shard.version }
         ensures reached { self.now.shard.is_failed ≡ false → result ≡ last_version self.now.front }
     {
-        let _ = &self.front;
+        self.know_there();
         self.shard.version()
     }
 
@@ -100,18 +100,25 @@ impl<B: ClusterName> ShardAt<B> {
         ensures value { result ≡ self.now.shard.is_failed }
         ensures works { result ≡ false → IsShardAt B.config self.now.front self.now.shard.tag self.now.shard }
     {
-        let _ = &self.front;
+        self.know_there();
         self.shard.is_failed()
     }
 
+    // It applied the entries of its front unless it has failed. It does nothing but say so.
+    fn know_there(&self)
+        ensures { IsThere B.config self.now }
+    {
+        let _front = &self.front;
+    }
+
     // Refused where the log that gave the peek took fewer entries than the shard applied.
-    fn check_front(&self, other: &SealedFront<B>) -> Result<(), Refusal>
+    fn check_front(&self, other: &KnownFront<B>) -> Result<(), Refusal>
         ensures answers { AnswersExactly result (shorter_fault self.now.front other.now)
             (λ _. IsPrefix self.now.front other.now) }
         ensures entries { AreEntries (suc (length B.config.resolver_splits)) 0 other.now }
     {
-        let _ = other.front();
-        self.front.agree(other);
+        other.know_entries();
+        self.front.know_one_book(other);
         if other.len() < self.front.len() {
             return Err(Refusal::Stale);
         }
@@ -136,9 +143,9 @@ impl<B: ClusterName> ShardAt<B> {
 
     /// Applies the messages that its log gave of its tag after its version. Refused as `Stale` where the log took fewer
     /// entries than the shard applied, else as `Unknown` where they are another tag's, as `Failed` once memory ran out
-    /// in the core, as `Stale` where they begin after an earlier version than the shard's, as `NotYet` with the version
-    /// after which they begin where that is a later one, and as `NoMemory`. It stays where it was unless memory ran out
-    /// in the core, after which it has failed.
+    /// in it, as `Stale` where they begin after an earlier version than the shard's, as `NotYet` with the version after
+    /// which they begin where that is a later one, and as `NoMemory`. It stays where it was unless memory ran out in
+    /// it, after which it has failed.
     pub(crate) fn apply(&mut self, message: &PeekMessage<B>) -> Result<(), Refusal>
         ensures answers { Answers result (peek_fault self.old message.now)
             (λ _. HasGoneOn self.old message.now self.new) }
@@ -148,8 +155,8 @@ impl<B: ClusterName> ShardAt<B> {
             → OnErr result ((self.new.shard ≡ self.old.shard) ⊎ HasFailed self.old.shard self.new.shard) }
     {
         self.check_peek(message)?;
-        // The sum is no more than this.
-        let _most = message.front.len();
+        // The sum is no more than that front's length.
+        message.front.know_len();
         let count = self.front.len() + message.peek.messages.len();
         let front = message.front.cut(count)?;
         self.shard.apply(&message.peek)?;
@@ -158,7 +165,7 @@ impl<B: ClusterName> ShardAt<B> {
     }
 
     /// Raises the floor to the version, if it isn't above it already: earlier versions are no longer served. Its front
-    /// stays. It takes no memory. Refused as `Failed` once memory ran out in the core, and as `FutureVersion` where the
+    /// stays. It takes no memory. Refused as `Failed` once memory ran out in it, and as `FutureVersion` where the
     /// version is above the shard's; then nothing changes.
     pub(crate) fn forget(&mut self, version: u64) -> Result<(), Refusal>
         ensures answers { AnswersExactly result (forget_fault self.old.shard version)

@@ -7,10 +7,10 @@ ghost use Rattle.fdb_client.specs.Programs.{is_read_only};
 ghost use Rattle.fdb_runtime.specs.Commits.{CommitEnds, is_shown};
 ghost use Rattle.fdb_runtime.specs.Sessions.{IsOpenAt};
 
+use crate::known_front::KnownFront;
 use crate::messages::outcome_message::OutcomeMessage;
 use crate::name::ClusterName;
 use crate::receipt::Receipt;
-use crate::sealed_front::SealedFront;
 use crate::session_state::SessionState;
 use crate::session_state::submitted::Submitted;
 use crate::threads::reply::CommitReply;
@@ -39,13 +39,13 @@ impl<B: ClusterName> SessionState<B> {
         ensures same { result ≡ receipt }
         ensures mark { self.new ≡ record self.old { mark = max self.old.mark (spot_version receipt.spot) } }
     {
-        let _ = self.front.front();
+        self.front.know_entries();
         self.mark = u64::max(self.mark, receipt.version());
         receipt
     }
 
     // Sees the front of a book that is full, and says why the transaction has no receipt.
-    fn see_full(&mut self, book: u32, front: &SealedFront<B>) -> Refusal
+    fn see_full(&mut self, book: u32, front: &KnownFront<B>) -> Refusal
         requires { book ≡ B.config.book }
         ensures why { (result ≡ BookFull) ⊎ (result ≡ CommitUnknownResult) }
         ensures full { result ≡ BookFull → length self.new.front ≡ B.config.book }

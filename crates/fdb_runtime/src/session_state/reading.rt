@@ -12,12 +12,12 @@ ghost use Rattle.fdb_roles.specs.Sessions.{OfOpen};
 ghost use Rattle.fdb_runtime.specs.LentShards.{lent_shards, lending_fault};
 ghost use Rattle.fdb_runtime.specs.Reading.{HasRead, own_writes_decide, RefusedBy};
 
+use crate::known_front::KnownFront;
 use crate::name::ClusterName;
 use crate::roles::shard::ShardAt;
 use crate::roles::shard::lent_shards::LentShards;
 use crate::roles::shard::reader::Reader;
 use crate::roles::shard::view::ShardView;
-use crate::sealed_front::SealedFront;
 use crate::session_state::SessionState;
 use bytes::Bytes;
 use fdb_keys::{Items, Key, KeyRange, Refusal};
@@ -37,7 +37,7 @@ impl<B: ClusterName> SessionState<B> {
 
     /// The version that the open transaction reads at, and the front once more, which reaches it. Refused as
     /// `NoTransaction` where none is open, and as `NoMemory`.
-    pub(crate) fn share_open(&self) -> Result<(u64, SealedFront<B>), Refusal>
+    pub(crate) fn share_open(&self) -> Result<(u64, KnownFront<B>), Refusal>
         ensures answers { OfOpen self.now.current result (λ transcript. Answers result None
             (λ shared. shared ≡ (transcript.read_version, self.now.front))) }
         ensures reached { IfOk result (λ shared. shared.0 ≤ last_version shared.1) }
@@ -57,7 +57,7 @@ impl<B: ClusterName> SessionState<B> {
     /// the key at that version. Then nothing changes. It takes what `Txn::get` takes, and a read of the shard.
     pub(crate) fn get_at(
         &mut self,
-        kept: &ShardAt<B>,
+        at: &ShardAt<B>,
         key: &Key,
         is_snapshot: bool,
     ) -> Result<Option<Bytes>, Refusal>
@@ -66,11 +66,11 @@ impl<B: ClusterName> SessionState<B> {
         ensures none { self.old.current ≡ None → result ≡ Err NoTransaction }
         ensures fault { IfSome self.old.current (λ transcript. RefusedBy result
             (if decided (program transcript.ops) key.now then None
-            else key_fault kept.now.shard key.now transcript.read_version)) }
+            else key_fault at.now.shard key.now transcript.read_version)) }
         ensures refused { OnErr result (self.new ≡ self.old) }
     {
         let (version, front) = self.share_open()?;
-        let view = ShardView::new(version, &front, kept);
+        let view = ShardView::new(version, &front, at);
         self.get(&view, key, is_snapshot)
     }
 
@@ -104,7 +104,7 @@ impl<B: ClusterName> SessionState<B> {
     pub(crate) fn get_range_at(
         &mut self,
         alloc: Global,
-        kept: &[&ShardAt<B>],
+        shards: &[&ShardAt<B>],
         range: &KeyRange,
         limit: u32,
         reverse: bool,
@@ -114,12 +114,12 @@ impl<B: ClusterName> SessionState<B> {
             (operation.Range range.now limit reverse is_snapshot) (answer.Pairs pairs) self.new) }
         ensures none { self.old.current ≡ None → result ≡ Err NoTransaction }
         ensures fault { IfSome self.old.current (λ transcript. RefusedBy result
-            (lending_fault transcript.read_version range.now (lent_shards kept.now))) }
+            (lending_fault transcript.read_version range.now (lent_shards shards.now))) }
         ensures refused { OnErr result (self.new ≡ self.old) }
     {
         let (version, front) = self.share_open()?;
         let reader = Reader::new(alloc, version, &front);
-        let lent = LentShards::new(reader, range, kept)?;
+        let lent = LentShards::new(reader, range, shards)?;
         self.get_range(&lent, range, limit, reverse, is_snapshot)
     }
 }

@@ -12,12 +12,12 @@ ghost use Rattle.fdb_roles.specs.Sessions.{OfOpen, Finishes};
 ghost use Rattle.fdb_runtime.specs.Endings.{ended_on, Ends, MayEndOn, MaySettle};
 ghost use Rattle.fdb_runtime.specs.Receipts.{IsOutcome, IsReceipt, IsToldOf, IsTurnedDown};
 ghost use Rattle.fdb_runtime.specs.Receipts.{spot_told, settle_fault, transaction_told};
-ghost use Rattle.fdb_runtime.specs.Sessions.{longer, seeing, with_current, Hears, IsOpenAt, Settles};
+ghost use Rattle.fdb_runtime.specs.Sessions.{longer, seeing, with_current, IsOpenAt, Settles, TakesOutcome};
 
+use crate::known_front::KnownFront;
 use crate::messages::outcome_message::OutcomeMessage;
 use crate::name::ClusterName;
 use crate::receipt::Receipt;
-use crate::sealed_front::SealedFront;
 use crate::session_state::submitted::Submitted;
 use crate::session_state::{SessionState, share_longer};
 use fdb_client::{Finished, Transcript, Txn};
@@ -56,14 +56,14 @@ fn finish_or_keep(current: &mut Option<Txn>, txn: Txn) -> Result<Finished, Refus
     match txn.finish() {
         Ok(finished) => Ok(finished),
         Err(refused) => {
-            *current = Some(refused.back);
+            drop(mem::replace(current, Some(refused.back)));
             Err(refused.why)
         }
     }
 }
 
 // What is left to do of what is finished; where that is nothing, its receipt on the front.
-fn ended_on<B: ClusterName>(front: SealedFront<B>, finished: Finished) -> Ended<B>
+fn ended_on<B: ClusterName>(front: KnownFront<B>, finished: Finished) -> Ended<B>
     requires { MayEndOn B.config.resolver_splits front finished }
     ensures { result ≡ ended_on front finished }
 {
@@ -107,10 +107,10 @@ fn is_told_of<B: ClusterName>(message: &OutcomeMessage<B>, submitted: &Submitted
 // The longer of both fronts twice, where the message is of the transaction. Refused as `CommitUnknownResult` where it
 // isn't, and as `NoMemory`.
 fn fronts_with<B: ClusterName>(
-    own: &SealedFront<B>,
+    own: &KnownFront<B>,
     message: &OutcomeMessage<B>,
     submitted: &Submitted,
-) -> Result<(SealedFront<B>, SealedFront<B>), Refusal>
+) -> Result<(KnownFront<B>, KnownFront<B>), Refusal>
     ensures told { OnOk result (IsToldOf message.now submitted.now.transcript) }
     ensures longer { IfOk result (λ fronts. (fronts.0 ≡ longer own.now message.now.front) × (fronts.1 ≡ fronts.0)) }
     ensures begins { IfOk result (λ fronts. IsPrefix own.now fronts.0 × IsPrefix message.now.front fronts.0) }
@@ -150,14 +150,14 @@ fn spot_told<B: ClusterName>(message: &OutcomeMessage<B>) -> Result<Spot, Refusa
 impl<B: ClusterName> SessionState<B> {
     /// Sees a front of the database: the front becomes the longer of both. Refused only as `NoMemory`, and then nothing
     /// changes. It takes O(1) time.
-    pub(crate) fn see(&mut self, front: &SealedFront<B>) -> Result<(), Refusal>
+    pub(crate) fn see(&mut self, front: &KnownFront<B>) -> Result<(), Refusal>
         ensures answers { Answers result None (λ _. self.new ≡ seeing self.old front.now) }
         ensures begins { IsPrefix self.old.front self.new.front }
         ensures sees { OnOk result (IsPrefix front.now self.new.front) }
         ensures refused { OnErr result (self.new ≡ self.old) }
     {
         let front = share_longer(&self.front, front)?;
-        let _ = front.front();
+        front.know_entries();
         self.front = front;
         Ok(())
     }
@@ -191,15 +191,15 @@ impl<B: ClusterName> SessionState<B> {
         Ok(ended_on(front, finished))
     }
 
-    // Hears what became of the transaction. Refused as `settle` is.
-    fn hear(
+    // Takes what became of the transaction. Refused as `settle` is.
+    fn take_outcome(
         &mut self,
         submitted: &Submitted,
         message: &OutcomeMessage<B>,
-    ) -> Result<(SealedFront<B>, Spot), Refusal>
+    ) -> Result<(KnownFront<B>, Spot), Refusal>
         requires { IsOpenAt B.config.resolver_splits self.old.number self.old.next_number self.old.front
             submitted.now.transcript }
-        ensures answers { Hears self.old message.now submitted.now.transcript result self.new }
+        ensures answers { TakesOutcome self.old message.now submitted.now.transcript result self.new }
         ensures begins { IsPrefix self.old.front self.new.front }
         ensures given { IfOk result (λ given. IsReceipt B.config.resolver_splits
             (record { front = given.0; spot = given.1; transcript = submitted.now.transcript })) }
@@ -210,7 +210,8 @@ impl<B: ClusterName> SessionState<B> {
             return Err(Refusal::CommitUnknownResult);
         };
         let told = spot_told(message);
-        front.front().len();
+        front.know_entries();
+        front.know_book();
         self.front = front;
         match told {
             Ok(spot) => {
@@ -244,9 +245,9 @@ impl<B: ClusterName> SessionState<B> {
         ensures turned { IfErr result (λ refused. (refused.why ≡ CommitUnknownResult)
             ⊎ IsTurnedDown B.config.resolver_splits self.new.front submitted.transcript refused.why) }
     {
-        let heard = self.hear(&submitted, message);
+        let taken = self.take_outcome(&submitted, message);
         let transcript = submitted.into_transcript();
-        match heard {
+        match taken {
             Ok((front, spot)) => Ok(Receipt::new(front, spot, transcript)),
             Err(why) => Err(Refused {
                 why,

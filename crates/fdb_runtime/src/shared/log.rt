@@ -24,7 +24,7 @@ impl<B: ClusterName> LogState<B> {
     // Whether a push that comes after the version waits on for those before it.
     fn is_before(&self, prev: u64) -> bool
         ensures { result
-            ≡ is_none self.now.ended && not self.now.at.core.is_failed && nat_lt self.now.at.core.last prev }
+            ≡ is_none self.now.ended && not self.now.at.state.is_failed && nat_lt self.now.at.state.last prev }
     {
         self.ended.is_none() && !self.at.is_failed() && self.at.version() < prev
     }
@@ -32,7 +32,7 @@ impl<B: ClusterName> LogState<B> {
     // Whether who has the messages through the version waits on for more.
     fn is_behind(&self, version: u64) -> bool
         ensures { result
-            ≡ is_none self.now.ended && not self.now.at.core.is_failed && nat_le self.now.at.core.last version }
+            ≡ is_none self.now.ended && not self.now.at.state.is_failed && nat_le self.now.at.state.last version }
     {
         self.ended.is_none() && !self.at.is_failed() && self.at.version() <= version
     }
@@ -41,8 +41,8 @@ impl<B: ClusterName> LogState<B> {
     fn push(&mut self, message: &LogMessage<B>) -> Result<LogAck, Refusal>
         ensures over { IfSome self.old.ended (λ why. (result ≡ Err why) × (self.new ≡ self.old)) }
         ensures taken { IfNone self.old.ended (AnswersInTurn result (front_fault self.old.at.front message.now.front)
-            (push_fault self.old.at.core message.now.message)
-            (λ ack. ack ≡ record { log = self.old.at.core.log; index = message.now.message.index })) }
+            (push_fault self.old.at.state message.now.message)
+            (λ ack. ack ≡ record { log = self.old.at.state.log; index = message.now.message.index })) }
         ensures ended { self.new.ended ≡ self.old.ended }
     {
         match self.ended {

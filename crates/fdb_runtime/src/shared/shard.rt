@@ -123,8 +123,8 @@ impl<B: ClusterName> SharedShard<B> {
     // Waits until the shard has come to the version, and tells whether the range goes on behind it. Its lock is held no
     // longer. Refused as `at_version` is.
     fn is_passed<R: Wait>(&self, rt: &R, version: u64, range: &KeyRange) -> Result<bool, Refusal> {
-        let kept = self.at_version(rt, version)?;
-        Ok(range.contains_text(kept.at.range().end()))
+        let held = self.at_version(rt, version)?;
+        Ok(range.contains_text(held.at.range().end()))
     }
 }
 

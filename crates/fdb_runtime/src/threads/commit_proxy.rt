@@ -3,11 +3,13 @@ ghost use Rattle.fdb_runtime.specs.Messages.{IsLastPart, IsLastMessage};
 ghost use Rattle.fdb_runtime.specs.Receipts.{IsOutcome};
 
 use crate::gate::{Pass, Role};
+use crate::known_front::KnownFront;
+use crate::making::why_of;
 use crate::messages::log_message::LogMessage;
 use crate::messages::verdict_message::VerdictMessage;
 use crate::name::ClusterName;
 use crate::roles::commit_proxy::CommitProxyAt;
-use crate::sealed_front::SealedFront;
+use crate::roles::sequencer::Issued;
 use crate::shared::Shared;
 use crate::shared::inbox::SharedInbox;
 use crate::shared::slot::Slot;
@@ -134,7 +136,7 @@ impl<B: ClusterName> CommitWorker<B> {
     fn submit(&mut self, sealed: Sealed) -> Option<Refusal> {
         match self.at.submit(sealed) {
             Ok(()) => None,
-            Err(refused) => Some(refused.why),
+            Err(refused) => Some(why_of(refused)),
         }
     }
 
@@ -166,7 +168,7 @@ impl<B: ClusterName> CommitWorker<B> {
         }
         let batch = self.at.seal()?;
         match shared.issue(rt, self.number, batch) {
-            Ok((ticket, front)) => {
+            Ok(Issued { ticket, front }) => {
                 self.entered = self.at.in_flight();
                 self.commit(rt, gate, shared, &ticket, front)
             }
@@ -181,7 +183,7 @@ impl<B: ClusterName> CommitWorker<B> {
         gate: &G,
         shared: &Shared<B>,
         ticket: &Ticket,
-        front: SealedFront<B>,
+        front: KnownFront<B>,
     ) -> Result<(), Refusal> {
         let role = Role::CommitProxy(self.number);
         self.at.learn(ticket, front)?;
@@ -195,7 +197,7 @@ impl<B: ClusterName> CommitWorker<B> {
     // Asks the resolvers, and decides the batch by what they say.
     fn decide<R: Wait>(&mut self, rt: &R) -> Result<(), Refusal> {
         self.ask(rt)?;
-        self.hear(rt)?;
+        self.wait_for_verdicts(rt)?;
         self.at.decide()
     }
 
@@ -228,13 +230,13 @@ impl<B: ClusterName> CommitWorker<B> {
         send_to(rt, self.parts.get(resolver as usize), sent)
     }
 
-    // Waits for each resolver's verdicts.
-    fn hear<R: Wait>(&mut self, rt: &R) -> Result<(), Refusal> {
+    // Waits for each resolver's verdicts, and has the proxy take them.
+    fn wait_for_verdicts<R: Wait>(&mut self, rt: &R) -> Result<(), Refusal> {
         for resolver in &self.verdicts {
             let Some(message) = receive(rt, resolver) else {
                 return Err(Refusal::Failed);
             };
-            self.at.hear(message)?;
+            self.at.verdict(message)?;
         }
         Ok(())
     }

@@ -42,7 +42,7 @@ fn grant_of<B: ClusterName>(granted: &GrantMessage<B>, version: u64) -> GrantRep
 #[derive(Drop)]
 pub(crate) struct ReadVersionWorker<B: ClusterName> {
     number: u32,
-    core: GrvCore,
+    state: GrvCore,
     replies: VecDeque<Arc<Slot<GrantReply<B>>>>,
 }
 
@@ -69,7 +69,7 @@ impl<B: ClusterName> ReadVersionWorker<B> {
     pub(crate) fn new(alloc: Global, number: u32) -> Self {
         ReadVersionWorker {
             number,
-            core: GrvCore::new(alloc),
+            state: GrvCore::new(alloc),
             replies: VecDeque::new(alloc),
         }
     }
@@ -92,7 +92,7 @@ impl<B: ClusterName> ReadVersionWorker<B> {
             mark,
             reply,
         } = request;
-        if self.core.ask(session, mark).is_err() {
+        if self.state.ask(session, mark).is_err() {
             reply.put(rt, GrantReply::Refused(Refusal::NoMemory));
             return;
         }
@@ -103,7 +103,7 @@ impl<B: ClusterName> ReadVersionWorker<B> {
 
     // Answers all who asked, in the order of asking.
     fn grant<R: Wait>(&mut self, rt: &R, granted: &GrantMessage<B>) {
-        let versions = self.core.grant(granted.committed);
+        let versions = self.state.grant(granted.committed);
         for &(_session, version) in versions.as_slice() {
             let Some(reply) = self.replies.pop_front() else {
                 return;
@@ -114,7 +114,7 @@ impl<B: ClusterName> ReadVersionWorker<B> {
 
     // Refuses all who asked.
     fn refuse<R: Wait>(&mut self, rt: &R, why: Refusal) {
-        let versions = self.core.grant(0);
+        let versions = self.state.grant(0);
         for _version in versions.as_slice() {
             let Some(reply) = self.replies.pop_front() else {
                 return;

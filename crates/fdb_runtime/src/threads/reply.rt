@@ -1,10 +1,10 @@
 ghost use Rattle.std.specs.Prelude.{⊤, None};
 ghost use Rattle.fdb_keys.specs.Answers.{Answers};
 
+use crate::known_front::KnownFront;
 use crate::messages::grant_message::GrantMessage;
 use crate::messages::outcome_message::OutcomeMessage;
 use crate::name::ClusterName;
-use crate::sealed_front::SealedFront;
 use crate::shared::slot::Slot;
 use fdb_keys::Refusal;
 use std::alloc::Global;
@@ -16,7 +16,7 @@ pub(crate) enum CommitReply<B: ClusterName> {
     /// What became of it.
     Outcome(OutcomeMessage<B>),
     /// It has no entry, as the book is full, which the front shows.
-    Full(SealedFront<B>),
+    Full(KnownFront<B>),
     /// It is refused.
     Refused(Refusal),
 }

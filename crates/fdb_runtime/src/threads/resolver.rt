@@ -2,6 +2,7 @@ ghost use Rattle.std.specs.Prelude.{◌≡◌, ⊤, None};
 ghost use Rattle.fdb_keys.specs.Answers.{Answers};
 
 use crate::gate::{Pass, Role};
+use crate::making::why_of;
 use crate::messages::part_message::PartMessage;
 use crate::messages::verdict_message::VerdictMessage;
 use crate::name::ClusterName;
@@ -88,10 +89,12 @@ impl<B: ClusterName> ResolverWorker<B> {
     // Keeps the part until its turn. One that came before is dropped.
     fn keep(&mut self, sent: SentPart<B>) -> Result<(), Refusal> {
         let prev = sent.message.part.prev;
-        match self.early.put(prev, sent) {
-            Ok(()) => Ok(()),
-            Err(refused) if refused.why == Refusal::Stale => Ok(()),
-            Err(refused) => Err(refused.why),
+        let Err(refused) = self.early.put(prev, sent) else {
+            return Ok(());
+        };
+        match why_of(refused) {
+            Refusal::Stale => Ok(()),
+            why => Err(why),
         }
     }
 

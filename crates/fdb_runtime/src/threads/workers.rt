@@ -157,7 +157,7 @@ impl<B: ClusterName> Workers<B> {
         Ok((parts, verdicts))
     }
 
-    // Ties it to each resolver by a channel for the verdicts, and adds the end that it hears.
+    // Ties it to each resolver by a channel for the verdicts, and adds the end that it receives from.
     fn tie_all<R: Wait>(
         &mut self,
         rt: &R,
@@ -190,7 +190,7 @@ fn commit_worker<B: ClusterName>(
     Ok(CommitWorker::new(shared.alloc, number, at, parts, verdicts))
 }
 
-// Ties the next commit proxy to the resolver, and gives the end that it hears. Refused only as `NoMemory`.
+// Ties the next commit proxy to the resolver, and gives the end that it receives from. Refused only as `NoMemory`.
 fn tie_one<B: ClusterName, R: Wait>(
     rt: &R,
     alloc: Global,

@@ -10,9 +10,9 @@ const CLIENTS: u32 = 4_097;
 const PLACES: u32 = 4_096;
 
 // For each number below the count the two texts with it between.
-fn push_each(text: &mut String, count: u32, front: &str, back: &str) -> Result<(), AllocError> {
+fn push_each(text: &mut String, count: u32, before: &str, back: &str) -> Result<(), AllocError> {
     for number in 0..count {
-        write!(text, "{front}{number}{back}")?;
+        write!(text, "{before}{number}{back}")?;
     }
     Ok(())
 }

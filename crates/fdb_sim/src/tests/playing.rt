@@ -21,8 +21,8 @@ pub fn check_script(
 }
 
 /// Adds a line that begins with the front and goes on with so many letters.
-pub fn push_long_line(script: &mut Vec<u8>, front: &[u8], count: usize) -> Result<(), Fail> {
-    script.extend_from_slice(front)?;
+pub fn push_long_line(script: &mut Vec<u8>, before: &[u8], count: usize) -> Result<(), Fail> {
+    script.extend_from_slice(before)?;
     script.resize(script.len().saturating_add(count), b'k')?;
     script.push(b'\n')?;
     Ok(())

@@ -4,6 +4,7 @@ use Rattle.std.proofs.Common.{append_assoc, List, [], ◌∷◌, ◌++◌, take,
 use Rattle.std.specs.List.{AllByRecursion}
 use Rattle.std.proofs.lemmas.Bool.{cond-true, cond-false, le-leb, lt-leb}
 use Rattle.std.proofs.lemmas.List.Sums.{fold-append}
+use Rattle.fdb_keys.proofs.Exports.{all-append, all-weaken}
 use Rattle.fdb_txn.specs.declared.entry.Move.{Move}
 use Rattle.fdb_txn.specs.declared.entry.Entry.{Entry}
 use Rattle.fdb_txn.specs.book.Transactions.{Transaction, NamesWrites}
@@ -13,18 +14,6 @@ use Rattle.fdb_txn.specs.book.History.{AreLinked, ReadsBelow, MovesExist, IsSeal
 use Rattle.fdb_txn.specs.rules.SerialMap.{serial_map, up_to}
 use Rattle.fdb_txn.specs.laws.SerialMapLaws.{BooksAreEntries, PlacesAreHistory, PlacesAreFoundInTheBook}
 use Rattle.fdb_txn.specs.laws.SerialMapLaws.{EarlierPlacesStay, EarlierMapsStay, EntriesGoOn}
-
--- what holds of each item of two lists holds of each of both together
-pub all-append : {A : Type 0} (P : A → Type 0) (xs ys : List A) → AllByRecursion P xs → AllByRecursion P ys
-    → AllByRecursion P (xs ++ ys)
-all-append P [] ys all others = others
-all-append P (x ∷ xs) ys all others = (all.0, all-append P xs ys all.1 others)
-
--- what follows of each item holds of each
-pub all-weaken : {A : Type 0} (P Q : A → Type 0) → ((x : A) → P x → Q x) → (xs : List A) → AllByRecursion P xs
-    → AllByRecursion Q xs
-all-weaken P Q weaker [] all = tt
-all-weaken P Q weaker (x ∷ xs) all = (weaker x all.0, all-weaken P Q weaker xs all.1)
 
 -- what holds of each item, and what else does, both do
 all-both : {A : Type 0} (P Q : A → Type 0) → (xs : List A) → AllByRecursion P xs → AllByRecursion Q xs

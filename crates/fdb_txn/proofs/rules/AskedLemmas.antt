@@ -7,13 +7,13 @@ use Rattle.std.proofs.lemmas.Bool.{and_from, not-true, not-false, ltb-false, lt-
 use Rattle.std.proofs.lemmas.Bool.Decides.{Decides-below_and, Decides-like}
 use Rattle.fdb_keys.specs.Points.{Point, point_lt}
 use Rattle.fdb_keys.specs.Ranges.{Range, in_range, in_set}
-use Rattle.fdb_keys.proofs.Exports.{lt-itself, le_lt_chain, in_range_parts, in_range_from}
+use Rattle.fdb_keys.proofs.Exports.{all-parts, in_range_from, in_range_parts, le_lt_chain, lt-itself}
 use Rattle.fdb_txn.specs.book.Book.{Stamped, Place}
 use Rattle.fdb_txn.specs.rules.Owners.{window, first_owner, owner, span_begin, is_asked}
 use Rattle.fdb_txn.specs.rules.Admission.{has_points, is_fresh, admits, all_below, committed}
 use Rattle.fdb_txn.specs.laws.AdmissionLaws.{Conflict, IsAmongAsked, CommittedByTheAsked, OldIsAsked}
 use Rattle.fdb_txn.specs.book.History.{Follows, IsHistory}
-use Rattle.fdb_txn.proofs.rules.CornersLemmas.{all-parts, asked_at_some_point, owned_at_some_version}
+use Rattle.fdb_txn.proofs.rules.CornersLemmas.{asked_at_some_point, owned_at_some_version}
 use Rattle.fdb_txn.proofs.rules.AdmissionLemmas.{admits_without_conflict}
 
 -- a set that holds a point has points

@@ -9,7 +9,7 @@ use Rattle.std.proofs.lemmas.Bool.{lt-leb, eqb-true, eq-eqb}
 use Rattle.std.proofs.lemmas.List.MinMax.{IsStrictWeakOrder-by_number}
 use Rattle.fdb_keys.specs.Points.{Point, point_lt}
 use Rattle.fdb_keys.specs.Ranges.{Range, in_range, in_set}
-use Rattle.fdb_keys.proofs.Exports.{point_order}
+use Rattle.fdb_keys.proofs.Exports.{all-parts, point_order}
 use Rattle.fdb_txn.specs.book.Book.{Stamped}
 use Rattle.fdb_txn.specs.rules.Owners.{first_owner, owner, bounds, version_corners, owned, span_begin, asked_at}
 use Rattle.fdb_txn.specs.rules.Admission.{overlaps_at}
@@ -25,12 +25,6 @@ some_of-any p (x ∷ xs) any = ⊎_elim (λ here. (x, here)) (λ there. some_of-
 or-skip : (a b c : Bool) → (a || c) ≡ true → (a || (b || c)) ≡ true
 or-skip true b c either = refl
 or-skip false b c either = or_right b c either
-
--- what holds of each item of two lists in one
-pub all-parts : {A : Type 0} (P : A → Type 0) (xs ys : List A) → AllByRecursion P (xs ++ ys) → AllByRecursion P xs
-    × AllByRecursion P ys
-all-parts P [] ys all = (tt, all)
-all-parts P (x ∷ xs) ys all = let parts = all-parts P xs ys all.1 in ((all.0, parts.0), parts.1)
 
 -- x and y come before the same items
 abbrev pub AreAlike : {A : Type 0} → (A → A → Bool) → List A → A → A → Type 0

@@ -11,7 +11,7 @@ use Rattle.std.proofs.lemmas.List.{map-append}
 use Rattle.std.proofs.lemmas.List.Sums.{fold-append}
 use Rattle.fdb_keys.specs.Points.{Point}
 use Rattle.fdb_keys.specs.Ranges.{Range, in_range}
-use Rattle.fdb_keys.proofs.Exports.{HaveCommonPoint, common_from_meet, meet_from_common}
+use Rattle.fdb_keys.proofs.Exports.{HaveCommonPoint, all-append, all-weaken, common_from_meet, meet_from_common}
 use Rattle.fdb_mutations.specs.declared.mutation.Mutation.{Mutation}
 use Rattle.fdb_mutations.specs.Maps.{Map}
 use Rattle.fdb_mutations.specs.Mutations.{names, named_range, new_value, effect, effects, value_after}
@@ -28,7 +28,7 @@ use Rattle.fdb_txn.specs.rules.Messages.{MessagesAreForTheRange, ShardsHoldTheRu
 use Rattle.fdb_txn.specs.rules.SerialMap.{serial_map, up_to, serial_map_at}
 use Rattle.fdb_txn.specs.laws.SerialMapLaws.{version_after}
 use Rattle.fdb_txn.specs.declared.tag_msg.TagMsg.{TagMsg}
-use Rattle.fdb_txn.proofs.book.HistoryLemmas.{AtMost, all-append, all-weaken, add_places-newer, up_to-all, up_to-above}
+use Rattle.fdb_txn.proofs.book.HistoryLemmas.{AtMost, add_places-newer, up_to-all, up_to-above}
 
 -- a mutation meets a range exactly where it names some point of it
 pub meets_at_some_point : MeetsAtSomePoint

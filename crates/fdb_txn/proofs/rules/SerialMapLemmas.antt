@@ -7,6 +7,7 @@ use Rattle.std.proofs.lemmas.Bool.{cases_Bool, cond-false, leb-true, leb-false, 
 use Rattle.std.proofs.lemmas.Bool.{and_from, or_parts, both_ways, cond_both, false_from_ne_true}
 use Rattle.fdb_keys.specs.Points.{Point}
 use Rattle.fdb_keys.specs.Ranges.{in_set}
+use Rattle.fdb_keys.proofs.Exports.{all-weaken}
 use Rattle.fdb_mutations.specs.declared.mutation.Mutation.{Mutation}
 use Rattle.fdb_mutations.specs.Maps.{Map}
 use Rattle.fdb_mutations.specs.Mutations.{names, new_value, effect, effects}
@@ -20,7 +21,7 @@ use Rattle.fdb_txn.specs.rules.SerialMap.{serial_map, up_to, serial_map_at}
 use Rattle.fdb_txn.specs.laws.SerialMapLaws.{ReadsStand}
 use Rattle.fdb_txn.proofs.rules.AskedLemmas.{all_below-decides, owner-exists}
 use Rattle.fdb_txn.proofs.rules.CornersLemmas.{overlaps_at_some_point}
-use Rattle.fdb_txn.proofs.book.HistoryLemmas.{AtMost, all-weaken, up_to-all}
+use Rattle.fdb_txn.proofs.book.HistoryLemmas.{AtMost, up_to-all}
 
 -- mutations of which none names the point leave there what stood there
 get-effects-unnamed : (map : Map) (mutations : List Mutation) (x : Point) → some_names mutations x ≡ false

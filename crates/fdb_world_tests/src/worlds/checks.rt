@@ -3,7 +3,7 @@
 use super::acts::{Act, Call, take};
 use super::{TWO_LOGS, new_world, take_all};
 use crate::asserting::same;
-use fdb_check::{check_placed, judge_book, new_run, run_entry};
+use fdb_check::{JudgedBook, SerialRun};
 use fdb_client::{Op, Reply, Transcript};
 use fdb_core::{CheckFault, Placed, World, serial_check};
 use fdb_keys::Refusal;
@@ -228,20 +228,23 @@ fn new_world_lends_no_entry(rt: HostRuntime) {
     same(&rt, lent(rt.alloc()), Ok((2, 0, 0)));
 }
 
-// How many entries are judged, how many transcripts are serialized at their spots, and how many entries and places of
-// the next one are run after the first.
+// How many entries are judged, how many transcripts are serialized at their spots, and how many entries are run after
+// the first, and after one more than there are.
 fn parts_found(alloc: Global, world: &World) -> Result<(usize, u64, usize, usize), CheckFault> {
     let splits = world.config().resolver_splits.as_slice();
-    let judged = judge_book(alloc, splits, world.book())?;
-    let count = check_placed(alloc, judged.as_slice(), world.book(), world.acknowledged())?;
-    let mut run = new_run(alloc, judged.as_slice());
-    run_entry(&mut run, world.book())?;
-    Ok((judged.len(), count, run.entry, run.place))
+    let Ok(judged) = JudgedBook::new(alloc, splits, world.book()) else {
+        return Err(CheckFault::NoMemory);
+    };
+    let count = judged.check(alloc, world.acknowledged())?;
+    let run = SerialRun::new(alloc, &judged).next_entry()?;
+    let entries = run.entries();
+    let last = run.next_entry()?;
+    Ok((judged.book().len(), count, entries, last.entries()))
 }
 
 #[test]
 fn the_parts_of_a_check_find_what_it_finds(rt: HostRuntime) {
     let alloc = rt.alloc();
     let found = ask(set_and_read(alloc, b'x'), |world| parts_found(alloc, world));
-    same(&rt, found, Ok(Ok((1, 2, 1, 0))));
+    same(&rt, found, Ok(Ok((1, 2, 1, 1))));
 }

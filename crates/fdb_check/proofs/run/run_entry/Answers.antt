@@ -1,8 +1,23 @@
-use Rattle.std.proofs.Common.{◌∙◌, ap, subst, refl, ◌≤◌, suc, add-one, length, Option}
+use Rattle.std.proofs.Common.{◌∙◌, sym, ap, subst, refl, ◌≤◌, suc, add-one, length, Option, arith}
+use Rattle.std.proofs.lemmas.Bool.{ltb-true}
+use Rattle.std.proofs.lemmas.Result.{err_from_is_err_and}
 use Rattle.fdb_txn.specs.declared.entry.Entry.{Entry}
 use Rattle.fdb_check.specs.Running.{batch_of}
 use Rattle.fdb_check.proofs.RunningLemmas.{item-there, comes-in, map-come, map-whole}
 use Rattle.fdb_check.proofs.run.run_entry.Goals as goal
+
+pub returns-in_err-go_within-clause-err : goal.returns-in_err-go_within-clause-err
+returns-in_err-go_within-clause-err c =
+    let left = err_from_is_err_and c.from_residual.result c.from_residual.ensures.1 in
+    rw (left.1, left.2) (
+      c.in_err-go_within.ensures.err,
+      ltb-true c.args.run.now.entry (length c.args.book.now) (sym c.in-Some.ensures.lookup.0),
+    )
+
+pub returns-clause-end : goal.returns-clause-end
+returns-clause-end c ended =
+    let within = ltb-true c.args.run.now.entry (length c.args.book.now) (sym c.in-Some.ensures.lookup.0) in
+    absurd (omega (arith, ended, within))
 
 pub returns-clause-ok : goal.returns-clause-ok
 returns-clause-ok c splits entries at within =

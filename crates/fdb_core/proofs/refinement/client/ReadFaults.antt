@@ -48,7 +48,7 @@ reads_of k version = record { version = version; config = k.config; book = k.boo
 
 -- which shards of the world have failed
 abbrev pub failed_shards : Cluster → List Bool
-failed_shards k = map (λ (role : ShardRole). role.core.is_failed) k.shards.items
+failed_shards k = map (λ (role : ShardRole). role.state.is_failed) k.shards.items
 
 -- why the shards refuse a read of the transaction
 abbrev pub fault_at : ShardReads → Transcript → Op → Option Refusal
@@ -101,7 +101,7 @@ module _ (k : Cluster) (as_many : length k.shards.items ≡ suc (length k.config
       let few : first_owner splits x < suc (length splits) = owner-exists splits 0 [] x 0 tt in
       let one = within-item k.shards.items (first_owner splits x) (omega (arith, few, as_many)) in
       let role = one.0 in
-      served-known version role.core.floor _
+      served-known version role.state.floor _
       (sym (ap (shard_fault k.book.items version)
       (slice_get-map progress_of k.shards.items (first_owner splits x) ∙ ap (option_map progress_of) one.1)) ∙ refused)
 

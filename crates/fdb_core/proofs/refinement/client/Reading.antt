@@ -43,11 +43,11 @@ same_reads k transcript shown book shards is entries roles = rw (is, entries, ro
 -- A shard holds its piece of the keys, applied some entries, and answers from the run of these, if it works.
 abbrev pub AnswersRun : Cluster → ℕ → ShardRole → Type 0
 AnswersRun k i role =
-    (role.core.range ≡ piece k.config.shard_splits i)
-    × (role.core.version ≡ last_version (take role.applied k.book.items))
-    × (role.core.is_failed ≡ false → (v : ℕ) (x : Point) → role.core.floor ≤ v → v ≤ role.core.version
+    (role.state.range ≡ piece k.config.shard_splits i)
+    × (role.state.version ≡ last_version (take role.applied k.book.items))
+    × (role.state.is_failed ≡ false → (v : ℕ) (x : Point) → role.state.floor ≤ v → v ≤ role.state.version
     → in_range (piece k.config.shard_splits i) x ≡ true
-    → value_at role.core v x
+    → value_at role.state v x
     ≡ get (serial_map_at k.config.resolver_splits v (seen_of (take role.applied k.book.items)).places) x)
 
 -- Each is readable: the run of the entries that it applied has, up to its version, what the run of all of them has.

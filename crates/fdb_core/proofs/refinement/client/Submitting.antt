@@ -38,6 +38,7 @@ use Rattle.fdb_core.specs.refinement.commit_proxy.Ties.{CommitProxyRefines, know
 use Rattle.fdb_machine.proofs.Exports.{submits-unrepeated, finished-read_only, finished-to_commit, open-given, open-has}
 use Rattle.fdb_machine.proofs.Exports.{submits-to_commit}
 use Rattle.fdb_core.proofs.refinement.RestoringLemmas.{flags-same, keeps-roles, restored}
+use Rattle.fdb_core.proofs.refinement.RolesLemmas.{roles_of, roles-refine}
 use Rattle.fdb_core.proofs.refinement.StepLemmas.{IsKept}
 use Rattle.fdb_core.proofs.refinement.client.Sessions.{refines-sessions}
 use Rattle.fdb_core.proofs.refinement.commit_proxy.Failing.{proxy-flags, proxy-tied, proxy-was}
@@ -154,17 +155,17 @@ module _ (k : Cluster) (before : Refines k) (sound : Invariant (machine_of k)) (
 -- What a commit proxy is once room was made for one more there, or once one more waits.
 module _ (config : Config) (book : List Entry) (known : Known) (role : CommitProxyRole)
     (ok : CommitProxyRefines config book known role) (later : CommitProxyRole)
-    (others : later ≡ record role { core = later.core; waiting = later.waiting }) where
+    (others : later ≡ record role { state = later.state; waiting = later.waiting }) where
   module _ (proxy : Core) (list : List Transcript)
-      (core : later.core.proxy ≡ record role.core.proxy { waiting = proxy.waiting }) (waits : later.waiting ≡ list)
+      (state : later.state.proxy ≡ record role.state.proxy { waiting = proxy.waiting }) (waits : later.waiting ≡ list)
     where
       -- its batch is the one that it had
       pub seen-waiting : seen_as later ≡ record (seen_as role) { waiting = list }
       seen-waiting = ap seen_as others ∙ (λ i. record (seen_as role) {
         waiting = waits i;
-        stage = stage_of role.is_reported (core i).stage;
-        verdicts_received = received_at (core i).stage;
-        acknowledgements_received = acknowledged_at (core i).stage;
+        stage = stage_of role.is_reported (state i).stage;
+        verdicts_received = received_at (state i).stage;
+        acknowledgements_received = acknowledged_at (state i).stage;
       })
 
       pub tied-waiting : proxy.waiting ≡ map commit_request_of list → AllByRecursion (ReadsWithin known.committed) list
@@ -173,35 +174,35 @@ module _ (config : Config) (book : List Entry) (known : Known) (role : CommitPro
         front = ok.front;
         behind = ok.behind;
         whole = ok.whole;
-        core = subst (IsCommitProxyAt config ok.front) (sym core)
-            (stays config ok.front role.core.proxy ok.core proxy.waiting role.core.proxy.batch role.core.proxy.stage
-            ok.core.stage);
+        state = subst (IsCommitProxyAt config ok.front) (sym state)
+            (stays config ok.front role.state.proxy ok.state proxy.waiting role.state.proxy.batch role.state.proxy.stage
+            ok.state.stage);
         unlearnt = ok.unlearnt;
-        waiting = ap (λ (p : Core). p.waiting) core ∙ same ∙ ap (map commit_request_of) (sym waits);
-        in_flight = ap (λ (p : Core). p.batch) core ∙ ok.in_flight;
+        waiting = ap (λ (p : Core). p.waiting) state ∙ same ∙ ap (map commit_request_of) (sym waits);
+        in_flight = ap (λ (p : Core). p.batch) state ∙ ok.in_flight;
         reads = subst (AllByRecursion (ReadsWithin known.committed)) (sym waits) reads;
-        stage = subst (λ (p : Core). StageRefines role.is_reported role.entry p.stage) (sym core) ok.stage;
+        stage = subst (λ (p : Core). StageRefines role.is_reported role.entry p.stage) (sym state) ok.stage;
       })
 
   -- nobody more waits
-  pub nobody-more : later.core.proxy ≡ role.core.proxy → later.waiting ≡ role.waiting
+  pub nobody-more : later.state.proxy ≡ role.state.proxy → later.waiting ≡ role.waiting
       → (seen_as later ≡ seen_as role) × CommitProxyRefines config book known later
-  nobody-more core waits = (
-    seen-waiting role.core.proxy role.waiting core waits,
-    tied-waiting role.core.proxy role.waiting core waits ok.waiting ok.reads,
+  nobody-more state waits = (
+    seen-waiting role.state.proxy role.waiting state waits,
+    tied-waiting role.state.proxy role.waiting state waits ok.waiting ok.reads,
   )
 
   -- one more waits
   pub one-more : (transcript : Transcript) → transcript.read_version ≤ known.committed
-      → later.core.proxy ≡ submitting role.core.proxy (commit_request_of transcript)
+      → later.state.proxy ≡ submitting role.state.proxy (commit_request_of transcript)
       → later.waiting ≡ role.waiting ++ transcript ∷ []
       → (seen_as later ≡ record (seen_as role) { waiting = role.waiting ++ transcript ∷ [] })
       × CommitProxyRefines config book known later
-  one-more transcript within core waits =
+  one-more transcript within state waits =
       let list = role.waiting ++ transcript ∷ [] in
-      let proxy = submitting role.core.proxy (commit_request_of transcript) in (
-        seen-waiting proxy list core waits,
-        tied-waiting proxy list core waits
+      let proxy = submitting role.state.proxy (commit_request_of transcript) in (
+        seen-waiting proxy list state waits,
+        tied-waiting proxy list state waits
             (ap (λ (all : List Transaction). all ++ commit_request_of transcript ∷ []) ok.waiting
             ∙ sym (map-append commit_request_of role.waiting (transcript ∷ [])))
             (all-push (ReadsWithin known.committed) role.waiting transcript ok.reads within),
@@ -218,27 +219,18 @@ module _ (k : Cluster) (before : Refines k) (proxy : ℕ) (role : CommitProxyRol
         sessions = sessions;
         acknowledged = acknowledged;
       })
-  refines-submitted its opened = record {
-    legal = before.legal;
-    room = before.room;
-    sequencer = before.sequencer;
-    book = before.book;
-    parts = before.parts;
-    resolvers = before.resolvers;
-    logs = before.logs;
-    shard_map = before.shard_map;
-    commit_proxies = commit_proxies-put k.config k.book.items (known_to k.sequencer) k.commit_proxies.items proxy later
-        before.commit_proxies its;
-    grv_proxies = before.grv_proxies;
-    opened = opened;
-  }
+  refines-submitted its opened = roles-refine (record k { sessions = sessions; acknowledged = acknowledged })
+      (refines-sessions k k.grv_proxies sessions acknowledged before before.grv_proxies opened)
+      (record (roles_of k) { commit_proxies = with_item k.commit_proxies proxy later })
+      (commit_proxies-put k.config k.book.items (known_to k.sequencer) k.commit_proxies.items proxy later
+      before.commit_proxies its) before.resolvers before.logs
 
-  module _ (others : later ≡ record role { core = later.core; waiting = later.waiting })
-      (core : later.core.proxy ≡ role.core.proxy) (waits : later.waiting ≡ role.waiting) where
+  module _ (others : later ≡ record role { state = later.state; waiting = later.waiting })
+      (state : later.state.proxy ≡ role.state.proxy) (waits : later.waiting ≡ role.waiting) where
     its-later : (seen_as later ≡ seen_as role)
         × CommitProxyRefines k.config k.book.items (known_to k.sequencer proxy) later
     its-later = nobody-more k.config k.book.items (known_to k.sequencer proxy) role
-        (before.commit_proxies.each proxy role there) later others core waits
+        (before.commit_proxies.each proxy role there) later others state waits
 
     -- the machine's commit proxies are as they were
     pub proxies-same : map seen_as (slice_set k.commit_proxies.items proxy later) ≡ map seen_as k.commit_proxies.items
@@ -260,8 +252,8 @@ module _ (k : Cluster) (before : Refines k) (proxy : ℕ) (role : CommitProxyRol
 module _ (k : Cluster) (tied : Tied k) (proxy : ℕ) (role : CommitProxyRole)
     (there : slice_get k.commit_proxies.items proxy ≡ Some role) (works : proxy_failed role ≡ false)
     (later : CommitProxyRole) (sessions : Sessions) (acknowledged : Vec Placed Global)
-    (others : later ≡ record role { core = later.core; waiting = later.waiting })
-    (core : later.core.proxy ≡ role.core.proxy) (waits : later.waiting ≡ role.waiting) where
+    (others : later ≡ record role { state = later.state; waiting = later.waiting })
+    (state : later.state.proxy ≡ role.state.proxy) (waits : later.waiting ≡ role.waiting) where
   was : slice_get tied.roles.commit_proxies.items proxy ≡ Some role
   was = proxy-was k tied proxy role there works
 
@@ -274,15 +266,15 @@ module _ (k : Cluster) (tied : Tied k) (proxy : ℕ) (role : CommitProxyRole)
 
   pub room-seen : map seen_as (slice_set k.commit_proxies.items proxy later) ≡ map seen_as k.commit_proxies.items
   room-seen = flags-same seen_as k.commit_proxies.items proxy role later there
-      (its-later (restored k tied) tied.refines proxy role was later sessions acknowledged others core waits).0
+      (its-later (restored k tied) tied.refines proxy role was later sessions acknowledged others state waits).0
 
   pub room-failed : failures_of has_room ≡ failures_of k
   room-failed = proxy-flags k has_room proxy role later there refl refl refl refl
-      (ap (λ (p : Core). p.is_failed) core)
+      (ap (λ (p : Core). p.is_failed) state)
 
   pub room-tied : EachOpen (ReadsWithin k.sequencer.committed) sessions → Tied has_room
   room-tied opened = proxy-tied k tied proxy later has_room refl refl refl refl
-      (refines-room (restored k tied) tied.refines proxy role was later sessions acknowledged others core waits opened)
+      (refines-room (restored k tied) tied.refines proxy role was later sessions acknowledged others state waits opened)
 
   -- where nobody comes, the world is as before
   pub nobody-comes : sessions ≡ k.sessions → acknowledged.items ≡ k.acknowledged.items → IsKept k has_room
@@ -315,11 +307,11 @@ room-kept k tied sessions acknowledged same told = record {
       (subst (EachOpen (ReadsWithin k.sequencer.committed)) (sym same) tied.refines.opened);
 }
 
--- none of the session's id is at the core, if it has an open transaction
+-- none of the session's id is at the state, if it has an open transaction
 pub none-repeated : (k : Cluster) → Refines k → Invariant (machine_of k) → (session proxy : ℕ) (role : CommitProxyRole)
     → slice_get k.commit_proxies.items proxy ≡ Some role
     → IfSome (open_at k.sessions session) (λ (transcript : Transcript).
-    place_of transcript.id (role.core.proxy.batch ++ role.core.proxy.waiting) ≡ None)
+    place_of transcript.id (role.state.proxy.batch ++ role.state.proxy.waiting) ≡ None)
 none-repeated k before sound session proxy role there = by (open_at k.sessions session) refl
   where
     ok : CommitProxyRefines k.config k.book.items (known_to k.sequencer proxy) role
@@ -327,7 +319,7 @@ none-repeated k before sound session proxy role there = by (open_at k.sessions s
 
     by : (opened : Option Transcript) → open_at k.sessions session ≡ opened
         → IfSome opened (λ (transcript : Transcript).
-        place_of transcript.id (role.core.proxy.batch ++ role.core.proxy.waiting) ≡ None)
+        place_of transcript.id (role.state.proxy.batch ++ role.state.proxy.waiting) ≡ None)
     by None is = tt
     by (Some transcript) is =
         ap₂ (λ (batch waiting : List Transaction). place_of transcript.id (batch ++ waiting)) ok.in_flight ok.waiting

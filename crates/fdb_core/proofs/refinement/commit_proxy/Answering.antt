@@ -40,7 +40,7 @@ use Rattle.fdb_core.specs.refinement.commit_proxy.Ties.{CommitProxyRefines, Know
 use Rattle.fdb_roles.proofs.Exports.{length-answers, length-outcomes_on, map-at, map-set}
 use Rattle.fdb_machine.proofs.Exports.{counted, sum-at, sessions-stand}
 use Rattle.fdb_core.proofs.refinement.commit_proxy.Ties.{busy-entry, commit_proxies-put, reported-is}
-use Rattle.fdb_core.proofs.refinement.commit_proxy.CoreStages.{exactly-map}
+use Rattle.fdb_core.proofs.refinement.commit_proxy.StateStages.{exactly-map}
 
 -- what becomes of a transaction, without its id
 abbrev pub outcome_of : TxnId × Outcome → Outcome

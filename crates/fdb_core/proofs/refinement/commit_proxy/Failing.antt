@@ -98,9 +98,9 @@ proxy-goes_on k tied taken proxy role later new given at works proxies resolvers
     was : slice_get tied.roles.commit_proxies.items proxy ≡ Some role
     was = proxy-was k tied proxy role at works
 
-    working : later.core.proxy.is_failed ≡ false
+    working : later.state.proxy.is_failed ≡ false
     working = (went.1.commit_proxies.each proxy later (set-here tied.roles.commit_proxies.items proxy later
-        (slice_get_within tied.roles.commit_proxies.items proxy role was))).core.works
+        (slice_get_within tied.roles.commit_proxies.items proxy role was))).state.works
 
 -- a proxy that is what it was leaves the world as it was
 pub proxy-kept : (k : Cluster) (tied : Tied k) (proxy : ℕ) (role later : CommitProxyRole)

@@ -1,4 +1,4 @@
--- What a commit proxy of the world has of the book, by the front that its core has.
+-- What a commit proxy of the world has of the book, by the front that its state has.
 use Rattle.std.proofs.Common.{◌≡◌, ◌∙◌, sym, ap, subst, arith, ℕ, suc, ◌<◌, le_of_lt, Bool, true, false, List, []}
 use Rattle.std.proofs.Common.{◌++◌, length, Some, None, slice_get}
 use Rattle.fdb_keys.specs.Points.{Point}
@@ -13,7 +13,7 @@ use Rattle.fdb_proxy.specs.declared.logging.Logging.{Logging as Decided}
 use Rattle.fdb_proxy.specs.declared.position.Position.{Position}
 use Rattle.fdb_proxy.specs.declared.resolving.Resolving.{Resolving as Unheard}
 use Rattle.fdb_proxy.specs.declared.stage.Stage.{Stage as CoreStage}
-use Rattle.fdb_proxy.specs.declared.stage.Stage.TheVariants as core
+use Rattle.fdb_proxy.specs.declared.stage.Stage.TheVariants as stages
 use Rattle.fdb_proxy.specs.Flags.{first_unset}
 use Rattle.fdb_proxy.specs.Logging.{answers_by}
 use Rattle.fdb_proxy.specs.Parting.{AreParts}
@@ -26,13 +26,13 @@ use Rattle.fdb_roles.proofs.Exports.{front-at, seen-front}
 
 -- the batch in flight, if there is one, is that of entry i of the book
 abbrev pub StageTold : Config → List Entry → Bool → ℕ → List Transaction → CoreStage → Type 0
-StageTold config book is_reported i batch core.Idle = (batch ≡ []) × (is_reported ≡ false)
-StageTold config book is_reported i batch core.Sealed = ⊥
-StageTold config book is_reported i batch core.Entered = ⊥
-StageTold config book is_reported i batch (core.Resolving resolving) =
+StageTold config book is_reported i batch stages.Idle = (batch ≡ []) × (is_reported ≡ false)
+StageTold config book is_reported i batch stages.Sealed = ⊥
+StageTold config book is_reported i batch stages.Entered = ⊥
+StageTold config book is_reported i batch (stages.Resolving resolving) =
     (entry : Entry) × IsBatchOf book i batch resolving.position entry
     × IsResolving config.resolver_splits book i entry resolving × (is_reported ≡ false)
-StageTold config book is_reported i batch (core.Logging decided) =
+StageTold config book is_reported i batch (stages.Logging decided) =
     (entry : Entry) × IsBatchOf book i batch decided.position entry
     × IsLogging config book i entry decided × (is_reported ≡ true → first_unset 0 decided.acknowledged ≡ None)
 
@@ -71,48 +71,48 @@ module _ (front behind : List Entry) (i : ℕ) (entry : Entry) (within : i < len
 
 module _ (config : Config) (book : List Entry) (known : Known) (role : CommitProxyRole)
     (ok : CommitProxyRefines config book known role) where
-  told-whole : (stage : CoreStage) → IsStageAt config ok.front role.core.proxy.batch stage
+  told-whole : (stage : CoreStage) → IsStageAt config ok.front role.state.proxy.batch stage
       → StageRefines role.is_reported role.entry stage
-      → StageTold config (ok.front ++ ok.behind) role.is_reported role.entry role.core.proxy.batch stage
-  told-whole core.Idle at tied = (at, tied)
-  told-whole core.Sealed at tied = absurd tied
-  told-whole core.Entered at tied = absurd tied
-  told-whole (core.Resolving resolving) at tied =
+      → StageTold config (ok.front ++ ok.behind) role.is_reported role.entry role.state.proxy.batch stage
+  told-whole stages.Idle at tied = (at, tied)
+  told-whole stages.Sealed at tied = absurd tied
+  told-whole stages.Entered at tied = absurd tied
+  told-whole (stages.Resolving resolving) at tied =
       let i : ℕ = at.0 in
       let entry : Entry = at.1 in
       let count = at.2 in
       let within : i < length ok.front = omega (arith, count) in
       let same : i ≡ role.entry = sym at.3.index ∙ tied.0 in (
         entry,
-        subst (λ (n : ℕ). IsBatchOf (ok.front ++ ok.behind) n role.core.proxy.batch resolving.position entry) same
-            (batch-whole ok.front ok.behind i entry within role.core.proxy.batch resolving.position at.3),
+        subst (λ (n : ℕ). IsBatchOf (ok.front ++ ok.behind) n role.state.proxy.batch resolving.position entry) same
+            (batch-whole ok.front ok.behind i entry within role.state.proxy.batch resolving.position at.3),
         subst (λ (n : ℕ). IsResolving config.resolver_splits (ok.front ++ ok.behind) n entry resolving) same
             (resolving-whole ok.front ok.behind i entry within config.resolver_splits resolving at.4),
         tied.1,
       )
-  told-whole (core.Logging decided) at tied =
+  told-whole (stages.Logging decided) at tied =
       let i : ℕ = at.0 in
       let entry : Entry = at.1 in
       let count = at.2 in
       let within : i < length ok.front = omega (arith, count) in
       let same : i ≡ role.entry = sym at.3.index ∙ tied.0 in (
         entry,
-        subst (λ (n : ℕ). IsBatchOf (ok.front ++ ok.behind) n role.core.proxy.batch decided.position entry) same
-            (batch-whole ok.front ok.behind i entry within role.core.proxy.batch decided.position at.3),
+        subst (λ (n : ℕ). IsBatchOf (ok.front ++ ok.behind) n role.state.proxy.batch decided.position entry) same
+            (batch-whole ok.front ok.behind i entry within role.state.proxy.batch decided.position at.3),
         subst (λ (n : ℕ). IsLogging config (ok.front ++ ok.behind) n entry decided) same
             (logging-whole ok.front ok.behind i entry within config decided at.4),
         tied.1,
       )
 
-  pub stage-told : StageTold config book role.is_reported role.entry role.core.proxy.batch role.core.proxy.stage
-  stage-told = subst (λ (all : List Entry). StageTold config all role.is_reported role.entry role.core.proxy.batch
-      role.core.proxy.stage) ok.whole (told-whole role.core.proxy.stage ok.core.stage ok.stage)
+  pub stage-told : StageTold config book role.is_reported role.entry role.state.proxy.batch role.state.proxy.stage
+  stage-told = subst (λ (all : List Entry). StageTold config all role.is_reported role.entry role.state.proxy.batch
+      role.state.proxy.stage) ok.whole (told-whole role.state.proxy.stage ok.state.stage ok.stage)
 
   -- the entry of a batch that waits for verdicts is the front's last one
-  pub last-told : (resolving : Unheard) (entry : Entry) → role.core.proxy.stage ≡ core.Resolving resolving
+  pub last-told : (resolving : Unheard) (entry : Entry) → role.state.proxy.stage ≡ stages.Resolving resolving
       → slice_get book role.entry ≡ Some entry → IsLastEntry ok.front role.entry entry
   last-told resolving entry is there =
-      let count = count-told (subst (IsStageAt config ok.front role.core.proxy.batch) is ok.core.stage)
+      let count = count-told (subst (IsStageAt config ok.front role.state.proxy.batch) is ok.state.stage)
       (subst (StageRefines role.is_reported role.entry) is ok.stage) in
       record {
         count = count;
@@ -120,8 +120,8 @@ module _ (config : Config) (book : List Entry) (known : Known) (role : CommitPro
             ∙ ap (λ (all : List Entry). slice_get all role.entry) ok.whole ∙ there;
       }
     where
-      count-told : IsStageAt config ok.front role.core.proxy.batch (core.Resolving resolving)
-          → StageRefines role.is_reported role.entry (core.Resolving resolving) → length ok.front ≡ suc role.entry
+      count-told : IsStageAt config ok.front role.state.proxy.batch (stages.Resolving resolving)
+          → StageRefines role.is_reported role.entry (stages.Resolving resolving) → length ok.front ≡ suc role.entry
       count-told at tied = at.2 ∙ ap suc (sym at.3.index ∙ tied.0)
 
   -- what is said of it is said of the front's

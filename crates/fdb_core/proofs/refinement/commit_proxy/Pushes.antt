@@ -2,7 +2,8 @@
 use Rattle.std.proofs.Common.{◌∙◌, sym, ap, List, [], ◌∷◌, ◌++◌}
 use Rattle.std.proofs.lemmas.List.{append_assoc}
 use Rattle.fdb_txn.specs.declared.entry.Entry.{Entry}
-use Rattle.fdb_sequencer.specs.Moves.{Dated, dated}
+use Rattle.fdb_sequencer.specs.declared.dated.Dated.{Dated}
+use Rattle.fdb_sequencer.specs.Moves.{dated}
 use Rattle.fdb_proxy.specs.declared.config.Config.{Config}
 use Rattle.fdb_core.specs.declared.roles.commit_proxy.CommitProxyRole.{CommitProxyRole}
 use Rattle.fdb_core.specs.refinement.commit_proxy.Ties.{CommitProxyRefines, Known}
@@ -18,7 +19,7 @@ commit_proxy-push config book entry known role ok = record {
   behind = ok.behind ++ entry ∷ [];
   whole = sym (append_assoc ok.front ok.behind (entry ∷ []))
       ∙ ap (λ (all : List Entry). all ++ entry ∷ []) ok.whole;
-  core = ok.core;
+  state = ok.state;
   unlearnt = ap (λ (moves : List Dated). moves ++ dated entry.version entry.moves) ok.unlearnt
       ∙ sym (dated_moves-push ok.behind entry);
   waiting = ok.waiting;

@@ -30,6 +30,7 @@ use Rattle.fdb_core.specs.refinement.resolver.Resolving.{ResolverRefines, taken_
 use Rattle.fdb_roles.proofs.Exports.{within-item, given-fault, refused-fault, map-at, map-set}
 use Rattle.fdb_core.proofs.refinement.commit_proxy.Ties.{commit_proxies-put}
 use Rattle.fdb_core.proofs.refinement.StepLemmas.{NamesWhatIsThere}
+use Rattle.fdb_core.proofs.refinement.RolesLemmas.{roles_of, roles-refine}
 use Rattle.fdb_machine.specs.machine.Failures.{unless_failed}
 
 -- nothing stands past the end of a list
@@ -123,20 +124,9 @@ pub proxy-set : (k : Cluster) → Refines k → (proxy : ℕ) (later : CommitPro
     × Refines (record k { commit_proxies = with_item k.commit_proxies proxy later })
 proxy-set k refines proxy later tied = (
   (λ i. record (machine_of k) { commit_proxies = map-set seen_as k.commit_proxies.items proxy later i }),
-  record {
-    legal = refines.legal;
-    room = refines.room;
-    sequencer = refines.sequencer;
-    book = refines.book;
-    parts = refines.parts;
-    resolvers = refines.resolvers;
-    logs = refines.logs;
-    shard_map = refines.shard_map;
-    commit_proxies = commit_proxies-put k.config k.book.items (known_to k.sequencer) k.commit_proxies.items proxy later
-        refines.commit_proxies tied;
-    grv_proxies = refines.grv_proxies;
-    opened = refines.opened;
-  },
+  roles-refine k refines (record (roles_of k) { commit_proxies = with_item k.commit_proxies proxy later })
+      (commit_proxies-put k.config k.book.items (known_to k.sequencer) k.commit_proxies.items proxy later
+      refines.commit_proxies tied) refines.resolvers refines.logs,
 )
 
 -- And one of which a commit proxy stays as it is.

@@ -93,7 +93,7 @@ module _ (k : Cluster) (refines : Refines k) (proxy advance : ℕ) (role : Commi
   }
 
   -- what waits read below the ticket's version
-  pub reads-below : AllByRecursion (λ (t : Transaction). t.read < ticket.version) role.core.proxy.waiting
+  pub reads-below : AllByRecursion (λ (t : Transaction). t.read < ticket.version) role.state.proxy.waiting
   reads-below =
       let committed = refines.sequencer.committed in
       let later = above in

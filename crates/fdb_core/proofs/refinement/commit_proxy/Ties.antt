@@ -5,13 +5,13 @@ use Rattle.std.specs.List.{AllByRecursion}
 use Rattle.std.proofs.lemmas.Bool.{true≢false}
 use Rattle.std.proofs.Math.Nat.{le_trans}
 use Rattle.std.proofs.lemmas.List.{length-set}
+use Rattle.fdb_keys.proofs.Exports.{all-weaken}
 use Rattle.fdb_txn.specs.declared.entry.Entry.{Entry}
-use Rattle.fdb_txn.proofs.Exports.{all-weaken}
 use Rattle.fdb_client.specs.Programs.{commit_request_of}
 use Rattle.fdb_sequencer.specs.declared.ticket.Ticket.{Ticket}
 use Rattle.fdb_proxy.specs.declared.config.Config.{Config}
 use Rattle.fdb_proxy.specs.declared.stage.Stage.{Stage as CoreStage}
-use Rattle.fdb_proxy.specs.declared.stage.Stage.TheVariants as core
+use Rattle.fdb_proxy.specs.declared.stage.Stage.TheVariants as stages
 use Rattle.fdb_proxy.specs.CommitProxies.{CommitProxy as Core, HasFailed, sealing, is_idle as has_no_batch}
 use Rattle.fdb_proxy.specs.Flags.{first_unset}
 use Rattle.fdb_core.specs.declared.roles.commit_proxy.CommitProxyRole.{CommitProxyRole}
@@ -51,57 +51,57 @@ commit_proxies-put config book known roles i next ok tied =
 
 module _ (config : Config) (book : List Entry) (known : Known) (role : CommitProxyRole)
     (ok : CommitProxyRefines config book known role) where
-  -- it is idle where its core has no batch
-  pub idle-seen : has_no_batch role.core.proxy.stage ≡ is_idle (seen_as role).stage
-  idle-seen = by_stage role.core.proxy.stage refl ok.stage
+  -- it is idle where its state has no batch
+  pub idle-seen : has_no_batch role.state.proxy.stage ≡ is_idle (seen_as role).stage
+  idle-seen = by_stage role.state.proxy.stage refl ok.stage
     where
       by_flag : (flag : Bool) → false ≡ is_idle (if flag then Reported else Logging)
       by_flag true = refl
       by_flag false = refl
 
-      by_stage : (stage : CoreStage) → role.core.proxy.stage ≡ stage
+      by_stage : (stage : CoreStage) → role.state.proxy.stage ≡ stage
           → StageRefines role.is_reported role.entry stage
-          → has_no_batch role.core.proxy.stage ≡ is_idle (seen_as role).stage
-      by_stage core.Idle is refines = rw is refl
-      by_stage core.Sealed is refines = absurd refines
-      by_stage core.Entered is refines = absurd refines
-      by_stage (core.Resolving batch) is refines = rw is refl
-      by_stage (core.Logging decided) is refines = rw is (by_flag role.is_reported)
+          → has_no_batch role.state.proxy.stage ≡ is_idle (seen_as role).stage
+      by_stage stages.Idle is refines = rw is refl
+      by_stage stages.Sealed is refines = absurd refines
+      by_stage stages.Entered is refines = absurd refines
+      by_stage (stages.Resolving batch) is refines = rw is refl
+      by_stage (stages.Logging decided) is refines = rw is (by_flag role.is_reported)
 
   -- a busy proxy's entry is in the book, with the batch that is in flight
   pub busy-entry : is_idle (seen_as role).stage ≡ false
       → (entry : Entry) × (slice_get book role.entry ≡ Some entry)
       × (entry.batch ≡ map commit_request_of role.in_flight)
-  busy-entry busy = by_stage role.core.proxy.stage refl (stage-told config book known role ok)
+  busy-entry busy = by_stage role.state.proxy.stage refl (stage-told config book known role ok)
     where
-      by_stage : (stage : CoreStage) → role.core.proxy.stage ≡ stage
-          → StageTold config book role.is_reported role.entry role.core.proxy.batch stage
+      by_stage : (stage : CoreStage) → role.state.proxy.stage ≡ stage
+          → StageTold config book role.is_reported role.entry role.state.proxy.batch stage
           → (entry : Entry) × (slice_get book role.entry ≡ Some entry)
           × (entry.batch ≡ map commit_request_of role.in_flight)
-      by_stage core.Idle is refines = absurd (true≢false (rw is at busy))
-      by_stage core.Sealed is refines = absurd refines
-      by_stage core.Entered is refines = absurd refines
-      by_stage (core.Resolving batch) is refines =
+      by_stage stages.Idle is refines = absurd (true≢false (rw is at busy))
+      by_stage stages.Sealed is refines = absurd refines
+      by_stage stages.Entered is refines = absurd refines
+      by_stage (stages.Resolving batch) is refines =
           (refines.0, refines.1.there, sym refines.1.places ∙ ok.in_flight)
-      by_stage (core.Logging decided) is refines =
+      by_stage (stages.Logging decided) is refines =
           (refines.0, refines.1.there, sym refines.1.places ∙ ok.in_flight)
 
   -- its machine's one is reported where it says so
   pub reported-is : is_idle (seen_as role).stage ≡ false → is_reported (seen_as role).stage ≡ role.is_reported
-  reported-is busy = by_stage role.core.proxy.stage refl (stage-told config book known role ok)
+  reported-is busy = by_stage role.state.proxy.stage refl (stage-told config book known role ok)
     where
       by_flag : (flag : Bool) → is_reported (if flag then Reported else Logging) ≡ flag
       by_flag true = refl
       by_flag false = refl
 
-      by_stage : (stage : CoreStage) → role.core.proxy.stage ≡ stage
-          → StageTold config book role.is_reported role.entry role.core.proxy.batch stage
+      by_stage : (stage : CoreStage) → role.state.proxy.stage ≡ stage
+          → StageTold config book role.is_reported role.entry role.state.proxy.batch stage
           → is_reported (seen_as role).stage ≡ role.is_reported
-      by_stage core.Idle is refines = absurd (true≢false (rw is at busy))
-      by_stage core.Sealed is refines = absurd refines
-      by_stage core.Entered is refines = absurd refines
-      by_stage (core.Resolving batch) is refines = rw is (sym refines.3)
-      by_stage (core.Logging decided) is refines = rw is (by_flag role.is_reported)
+      by_stage stages.Idle is refines = absurd (true≢false (rw is at busy))
+      by_stage stages.Sealed is refines = absurd refines
+      by_stage stages.Entered is refines = absurd refines
+      by_stage (stages.Resolving batch) is refines = rw is (sym refines.3)
+      by_stage (stages.Logging decided) is refines = rw is (by_flag role.is_reported)
 
   -- a greater committed version leaves a proxy tied
   module _ (raised : ℕ) (above : known.committed ≤ raised) where
@@ -114,7 +114,7 @@ module _ (config : Config) (book : List Entry) (known : Known) (role : CommitPro
       front = ok.front;
       behind = ok.behind;
       whole = ok.whole;
-      core = ok.core;
+      state = ok.state;
       unlearnt = ok.unlearnt;
       waiting = ok.waiting;
       in_flight = ok.in_flight;
@@ -130,12 +130,12 @@ module _ (config : Config) (book : List Entry) (known : Known) (role : CommitPro
       front = ok.front;
       behind = ok.behind;
       whole = ok.whole;
-      core = ok.core;
+      state = ok.state;
       unlearnt = ok.unlearnt;
       waiting = ok.waiting;
       in_flight = ok.in_flight;
       reads = reads-raised;
-      stage = by_stage role.core.proxy.stage refl ok.stage;
+      stage = by_stage role.state.proxy.stage refl ok.stage;
     }
       where
         unset-missing : (n : ℕ) (flags : List Bool) → first_missing (λ log. true) n flags ≡ first_unset n flags
@@ -143,13 +143,13 @@ module _ (config : Config) (book : List Entry) (known : Known) (role : CommitPro
         unset-missing n (true ∷ flags) = unset-missing (suc n) flags
         unset-missing n (false ∷ flags) = refl
 
-        by_stage : (stage : CoreStage) → role.core.proxy.stage ≡ stage
-            → StageRefines role.is_reported role.entry stage → StageRefines true role.entry role.core.proxy.stage
-        by_stage core.Idle is refines = absurd (true≢false (sym (rw is at logging)))
-        by_stage core.Sealed is refines = absurd refines
-        by_stage core.Entered is refines = absurd refines
-        by_stage (core.Resolving batch) is refines = absurd (true≢false (sym (rw is at logging)))
-        by_stage (core.Logging decided) is refines =
+        by_stage : (stage : CoreStage) → role.state.proxy.stage ≡ stage
+            → StageRefines role.is_reported role.entry stage → StageRefines true role.entry role.state.proxy.stage
+        by_stage stages.Idle is refines = absurd (true≢false (sym (rw is at logging)))
+        by_stage stages.Sealed is refines = absurd refines
+        by_stage stages.Entered is refines = absurd refines
+        by_stage (stages.Resolving batch) is refines = absurd (true≢false (sym (rw is at logging)))
+        by_stage (stages.Logging decided) is refines =
             subst (StageRefines true role.entry) (sym is)
             (refines.0, λ reported. sym (unset-missing 0 decided.acknowledged) ∙ all_came)
           where
@@ -159,25 +159,25 @@ module _ (config : Config) (book : List Entry) (known : Known) (role : CommitPro
 -- the machine's one whose version is reported
 pub seen-reported : (role : CommitProxyRole) → is_logging (seen_as role).stage ≡ true
     → seen_as (record role { is_reported = true }) ≡ record (seen_as role) { stage = Reported }
-seen-reported role logging = by_stage role.core.proxy.stage refl
+seen-reported role logging = by_stage role.state.proxy.stage refl
   where
-    by_stage : (stage : CoreStage) → role.core.proxy.stage ≡ stage
+    by_stage : (stage : CoreStage) → role.state.proxy.stage ≡ stage
         → seen_as (record role { is_reported = true }) ≡ record (seen_as role) { stage = Reported }
-    by_stage core.Idle is = absurd (true≢false (sym (rw is at logging)))
-    by_stage core.Sealed is = absurd (true≢false (sym (rw is at logging)))
-    by_stage core.Entered is = absurd (true≢false (sym (rw is at logging)))
-    by_stage (core.Resolving batch) is = absurd (true≢false (sym (rw is at logging)))
-    by_stage (core.Logging decided) is = rw is refl
+    by_stage stages.Idle is = absurd (true≢false (sym (rw is at logging)))
+    by_stage stages.Sealed is = absurd (true≢false (sym (rw is at logging)))
+    by_stage stages.Entered is = absurd (true≢false (sym (rw is at logging)))
+    by_stage (stages.Resolving batch) is = absurd (true≢false (sym (rw is at logging)))
+    by_stage (stages.Logging decided) is = rw is refl
 
--- what the machine sees of a core's stage where the batch isn't reported or is
+-- what the machine sees of a state's stage where the batch isn't reported or is
 abbrev Staged : Type 0
 Staged = Stage × List Bool × List Bool
 
 abbrev staged : Bool → CoreStage → Staged
 staged is_reported stage = (stage_of is_reported stage, received_at stage, acknowledged_at stage)
 
--- a proxy whose batch wasn't sealed is seen as it was, also where its core failed while it learnt the ticket
-pub seen-unsealed : (role later : CommitProxyRole) (ticket : Ticket) → has_no_batch role.core.proxy.stage ≡ true
+-- a proxy whose batch wasn't sealed is seen as it was, also where its state failed while it learnt the ticket
+pub seen-unsealed : (role later : CommitProxyRole) (ticket : Ticket) → has_no_batch role.state.proxy.stage ≡ true
     → IsLeftUnsealed ticket role later → seen_as later ≡ seen_as role
 seen-unsealed role later ticket idle left =
     ap seen_as left.rest
@@ -187,14 +187,14 @@ seen-unsealed role later ticket idle left =
       acknowledgements_received = at.2;
     })
     (⊎_elim
-    (λ (same : later.core.proxy ≡ role.core.proxy). ap (λ (p : Core). staged role.is_reported p.stage) same)
-    (λ (failed : HasFailed (sealing role.core.proxy) ticket later.core.proxy).
-    ap (λ (p : Core). staged role.is_reported p.stage) failed.rest ∙ sym (by_stage role.core.proxy.stage idle))
-    left.core)
+    (λ (same : later.state.proxy ≡ role.state.proxy). ap (λ (p : Core). staged role.is_reported p.stage) same)
+    (λ (failed : HasFailed (sealing role.state.proxy) ticket later.state.proxy).
+    ap (λ (p : Core). staged role.is_reported p.stage) failed.rest ∙ sym (by_stage role.state.proxy.stage idle))
+    left.state)
   where
     by_stage : (stage : CoreStage) → has_no_batch stage ≡ true → staged role.is_reported stage ≡ (Idle, [], [])
-    by_stage core.Idle none = refl
-    by_stage core.Sealed none = cc
-    by_stage core.Entered none = cc
-    by_stage (core.Resolving batch) none = cc
-    by_stage (core.Logging decided) none = cc
+    by_stage stages.Idle none = refl
+    by_stage stages.Sealed none = cc
+    by_stage stages.Entered none = cc
+    by_stage (stages.Resolving batch) none = cc
+    by_stage (stages.Logging decided) none = cc

@@ -76,9 +76,9 @@ module _ (k : Cluster) (book : Vec Entry Global) (entry_proxies : Vec ℕ Global
   -- else the proxy is as it was, or has failed
   pub seal-left : (tied : Tied k) (proxy advance : ℕ) (role later : CommitProxyRole) (ticket : Ticket)
       → slice_get k.commit_proxies.items proxy ≡ Some role → proxy_failed role ≡ false
-      → has_no_batch role.core.proxy.stage ≡ true → IsLeftUnsealed ticket role later
+      → has_no_batch role.state.proxy.stage ≡ true → IsLeftUnsealed ticket role later
       → LeftOrFailed k (step.Seal proxy advance) (roomy k (with_item k.commit_proxies proxy later))
-  seal-left tied proxy advance role later ticket at works idle left = ⊎_elim by-core by-failure left.core
+  seal-left tied proxy advance role later ticket at works idle left = ⊎_elim by-state by-failure left.state
     where
       new : Cluster
       new = roomy k (with_item k.commit_proxies proxy later)
@@ -93,26 +93,26 @@ module _ (k : Cluster) (book : Vec Entry Global) (entry_proxies : Vec ℕ Global
       was : slice_get tied.roles.commit_proxies.items proxy ≡ Some role
       was = proxy-was k tied proxy role at works
 
-      by-core : later.core.proxy ≡ role.core.proxy → LeftOrFailed k (step.Seal proxy advance) new
-      by-core same =
+      by-state : later.state.proxy ≡ role.state.proxy → LeftOrFailed k (step.Seal proxy advance) new
+      by-state same =
           let waits : later.waiting ≡ role.waiting = ap (λ (it : CommitProxyRole). it.waiting) left.rest in
           let its = (nobody-more k.config k.book.items (known_to k.sequencer proxy) role
           (tied.refines.commit_proxies.each proxy role was) later
-          (left.rest ∙ (λ i. record role { core = later.core; waiting = sym waits i })) same waits).1 in
+          (left.rest ∙ (λ i. record role { state = later.state; waiting = sym waits i })) same waits).1 in
           record {
             machine = same-seen;
             failed = inl (proxy-flags k new proxy role later at refl refl refl refl
-                (ap (λ (core : Core). core.is_failed) same));
+                (ap (λ (state : Core). state.is_failed) same));
             tied = proxy-tied k tied proxy later new refl refl refl refl
                 (refines-roomy tied (with_item tied.roles.commit_proxies proxy later)
                 (commit_proxies-put k.config k.book.items (known_to k.sequencer) tied.roles.commit_proxies.items proxy
                 later tied.refines.commit_proxies its));
           }
 
-      by-failure : HasFailed (sealing role.core.proxy) ticket later.core.proxy
+      by-failure : HasFailed (sealing role.state.proxy) ticket later.state.proxy
           → LeftOrFailed k (step.Seal proxy advance) new
       by-failure failed =
-          let fails : proxy_failed later ≡ true = ap (λ (core : Core). core.is_failed) failed.rest in
+          let fails : proxy_failed later ≡ true = ap (λ (state : Core). state.is_failed) failed.rest in
           record {
             machine = same-seen;
             failed = inr (ap (λ (flags : List Bool). record (failures_of k) { commit_proxies = flags })

@@ -15,11 +15,11 @@ use Rattle.fdb_core.proofs.refinement.log.Pushing.{log-same}
 use Rattle.fdb_core.proofs.refinement.StepLemmas.{IsKept}
 use Rattle.fdb_core.proofs.refinement.RestoringLemmas.{restored, restores-at, restores-set, restores-failed, flags-same}
 
--- one whose core is as it was leaves the world as it was
-pub log-kept : (k : Cluster) (tied : Tied k) (i l : ℕ) (entry : Entry) (role : LogRole) (core : Log)
+-- one whose state is as it was leaves the world as it was
+pub log-kept : (k : Cluster) (tied : Tied k) (i l : ℕ) (entry : Entry) (role : LogRole) (state : Log)
     → slice_get k.book.items i ≡ Some entry → slice_get k.logs.items l ≡ Some role → log_failed role ≡ false
-    → core ≡ role.core → IsKept k (record k { logs = with_item k.logs l (record role { core = core }) })
-log-kept k tied i l entry role core there at works same = record {
+    → state ≡ role.state → IsKept k (record k { logs = with_item k.logs l (record role { state = state }) })
+log-kept k tied i l entry role state there at works same = record {
   machine = ap (λ (taken : List ℕ). record (machine_of k) { logs = taken })
       (flags-same (λ (of : LogRole). of.taken) k.logs.items l role later at refl);
   failed = ap (λ (flags : List Bool). record (failures_of k) { logs = flags })
@@ -31,22 +31,22 @@ log-kept k tied i l entry role core there at works same = record {
     logs = restores-set _ _ k.logs.items tied.roles.logs.items tied.logs l later;
     shards = tied.shards;
     refines = (log-same (restored k tied) tied.refines i l entry role there
-        (restores-at _ _ k.logs.items tied.roles.logs.items tied.logs l role at works) core same).1;
+        (restores-at _ _ k.logs.items tied.roles.logs.items tied.logs l role at works) state same).1;
   };
 }
   where
     later : LogRole
-    later = record role { core = core }
+    later = record role { state = state }
 
 -- it is as it was, or has failed
-pub log-left : (k : Cluster) (tied : Tied k) (i l : ℕ) (entry : Entry) (role : LogRole) (core : Log)
+pub log-left : (k : Cluster) (tied : Tied k) (i l : ℕ) (entry : Entry) (role : LogRole) (state : Log)
     → slice_get k.book.items i ≡ Some entry → slice_get k.logs.items l ≡ Some role → log_failed role ≡ false
-    → (core ≡ role.core) ⊎ HasFailed role.core core
-    → LeftOrFailed k (step.Push i l) (record k { logs = with_item k.logs l (record role { core = core }) })
-log-left k tied i l entry role core there at works left = ⊎_elim by-core by-failure left
+    → (state ≡ role.state) ⊎ HasFailed role.state state
+    → LeftOrFailed k (step.Push i l) (record k { logs = with_item k.logs l (record role { state = state }) })
+log-left k tied i l entry role state there at works left = ⊎_elim by-state by-failure left
   where
     later : LogRole
-    later = record role { core = core }
+    later = record role { state = state }
 
     new : Cluster
     new = record k { logs = with_item k.logs l later }
@@ -55,12 +55,12 @@ log-left k tied i l entry role core there at works left = ⊎_elim by-core by-fa
     machine = ap (λ (taken : List ℕ). record (machine_of k) { logs = taken })
         (flags-same (λ (of : LogRole). of.taken) k.logs.items l role later at refl)
 
-    by-core : core ≡ role.core → LeftOrFailed k (step.Push i l) new
-    by-core same =
-        let stays = log-kept k tied i l entry role core there at works same in
+    by-state : state ≡ role.state → LeftOrFailed k (step.Push i l) new
+    by-state same =
+        let stays = log-kept k tied i l entry role state there at works same in
         record { machine = stays.machine; failed = inl stays.failed; tied = stays.tied }
 
-    by-failure : HasFailed role.core core → LeftOrFailed k (step.Push i l) new
+    by-failure : HasFailed role.state state → LeftOrFailed k (step.Push i l) new
     by-failure failed = record {
       machine = machine;
       failed = inr (ap (λ (flags : List Bool). record (failures_of k) { logs = flags })

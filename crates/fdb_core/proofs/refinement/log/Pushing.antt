@@ -28,6 +28,7 @@ use Rattle.fdb_roles.proofs.Exports.{versions-ordered}
 use Rattle.fdb_machine.proofs.Exports.{pushes-transition}
 use Rattle.fdb_core.proofs.refinement.log.Ties.{push_fault-turn, turn_fault, in_turn-now}
 use Rattle.fdb_core.proofs.refinement.log.Ties.{push-refused, push-undecided, set-same, tags-taken, prev-is}
+use Rattle.fdb_core.proofs.refinement.RolesLemmas.{roles_of, roles-refine}
 
 module _ (k : Cluster) (before : Refines k) (i l : ℕ) (entry : Entry) (role : LogRole)
     (there : slice_get k.book.items i ≡ Some entry) (at : slice_get k.logs.items l ≡ Some role) where
@@ -86,16 +87,16 @@ module _ (k : Cluster) (before : Refines k) (i l : ℕ) (entry : Entry) (role : 
           there in
           omega (arith, prev, version, before-it, rises)
 
-      pub fault-is : push_fault role.core message ≡ turn_fault role.taken i entry
+      pub fault-is : push_fault role.state message ≡ turn_fault role.taken i entry
       fault-is = push_fault-turn k.config k.book.items l role i entry message before.book.entries its there
           (ap (λ (it : LogMsg). it.log) message-is) (ap (λ (it : LogMsg). it.prev) message-is)
 
       -- where the log refuses, so does the machine
-      pub refused : (why : Refusal) → push_fault role.core message ≡ Some why → pushes (machine_of k) i l ≡ Err why
+      pub refused : (why : Refusal) → push_fault role.state message ≡ Some why → pushes (machine_of k) i l ≡ Err why
       refused why fault = push-refused (machine_of k) i l role.taken entry there taken-at why made-and-is.0
           (sym fault-is ∙ fault)
 
-      module _ (faultless : push_fault role.core message ≡ None) where
+      module _ (faultless : push_fault role.state message ≡ None) where
         due : role.taken ≡ i
         due = in_turn-now role.taken i entry (sym fault-is ∙ faultless)
 
@@ -111,14 +112,14 @@ module _ (k : Cluster) (before : Refines k) (i l : ℕ) (entry : Entry) (role : 
         accepted = rw due (pushes-transition (machine_of k) i l entry there
             (taken-at ∙ ap (λ (n : ℕ). Some n) due) made-and-is.0)
 
-        module _ (core : Log) (taken : HasTaken role.core message core) where
+        module _ (state : Log) (taken : HasTaken role.state message state) where
           abbrev new : LogRole
-          new = record { core = core; taken = role.taken + 1 }
+          new = record { state = state; taken = role.taken + 1 }
 
           -- what a tag was popped through its shard applied, and so the log took it before
-          unpopped : (tag : ℕ) → keeps role.core tag ≡ true → popped_through role.core tag < entry.version
+          unpopped : (tag : ℕ) → keeps role.state tag ≡ true → popped_through role.state tag < entry.version
           unpopped tag keeps_it =
-              let own = kept-tag role.core tag keeps_it in
+              let own = kept-tag role.state tag keeps_it in
               let inside : tag < length k.shards.items = subst (λ (n : ℕ). tag < n)
               (its.tags ∙ sym before.logs.shard_count) own.0 in
               let shard = within-item k.shards.items tag inside in
@@ -136,7 +137,7 @@ module _ (k : Cluster) (before : Refines k) (i l : ℕ) (entry : Entry) (role : 
               omega (arith, tie.1, low, is.version, reached, rises)
 
           refined : LogRefines k.config k.book.items l new
-          refined = log-next k.config k.book.items l role.core role.taken entry message core its
+          refined = log-next k.config k.book.items l role.state role.taken entry message state its
               (ap (slice_get k.book.items) due ∙ there) unpopped
               (message-is ∙ ap (λ (n : ℕ). log_message k.config.resolver_splits k.config.shard_splits k.config.logs l n
               (seen_before k.book.items n) entry) (sym due)) taken
@@ -146,55 +147,34 @@ module _ (k : Cluster) (before : Refines k) (i l : ℕ) (entry : Entry) (role : 
           counted = map-set (λ (it : LogRole). it.taken) k.logs.items l new
 
           pub tied : Refines (record k { logs = with_item k.logs l new })
-          tied = record {
-            legal = before.legal;
-            room = before.room;
-            sequencer = before.sequencer;
-            book = before.book;
-            parts = before.parts;
-            resolvers = before.resolvers;
-            logs = record {
-              log_count = length-set k.logs.items l new ∙ before.logs.log_count;
-              shard_count = before.logs.shard_count;
-              each_log = each-set (LogRefines k.config k.book.items) k.logs.items l new before.logs.each_log
-                  (λ _. refined);
-              each_shard = before.logs.each_shard;
-              each_tag = tags-taken k.logs.items l role new k.shards.items at (omega arith) taken.popped
-                  before.logs.each_tag;
-            };
-            shard_map = before.shard_map;
-            commit_proxies = before.commit_proxies;
-            grv_proxies = before.grv_proxies;
-            opened = before.opened;
-          }
+          tied = roles-refine k before (record (roles_of k) { logs = with_item k.logs l new }) before.commit_proxies
+              before.resolvers (record {
+                log_count = length-set k.logs.items l new ∙ before.logs.log_count;
+                shard_count = before.logs.shard_count;
+                each_log = each-set (LogRefines k.config k.book.items) k.logs.items l new before.logs.each_log
+                    (λ _. refined);
+                each_shard = before.logs.each_shard;
+                each_tag = tags-taken k.logs.items l role new k.shards.items at (omega arith) taken.popped
+                    before.logs.each_tag;
+              })
 
   -- a log that stays leaves the world as it is
-  module _ (core : Log) (same : core ≡ role.core) where
+  module _ (state : Log) (same : state ≡ role.state) where
     abbrev put : LogRole
-    put = record { core = core; taken = role.taken }
+    put = record { state = state; taken = role.taken }
 
     put-same : slice_set k.logs.items l put ≡ k.logs.items
-    put-same = ap (λ (it : Log). slice_set k.logs.items l (record { core = it; taken = role.taken })) same
+    put-same = ap (λ (it : Log). slice_set k.logs.items l (record { state = it; taken = role.taken })) same
         ∙ set-same k.logs.items l role at
 
     pub log-same : (machine_of (record k { logs = with_item k.logs l put }) ≡ machine_of k)
         × Refines (record k { logs = with_item k.logs l put })
     log-same = (
       ap (λ (logs : List LogRole). record (machine_of k) { logs = logs_taken logs }) put-same,
-      record {
-        legal = before.legal;
-        room = before.room;
-        sequencer = before.sequencer;
-        book = before.book;
-        parts = before.parts;
-        resolvers = before.resolvers;
-        logs = subst (λ (logs : List LogRole). LogsRefine k.config k.book.items logs k.shards.items)
-            (sym put-same) before.logs;
-        shard_map = before.shard_map;
-        commit_proxies = before.commit_proxies;
-        grv_proxies = before.grv_proxies;
-        opened = before.opened;
-      },
+      roles-refine k before (record (roles_of k) { logs = with_item k.logs l put }) before.commit_proxies
+          before.resolvers
+          (subst (λ (logs : List LogRole). LogsRefine k.config k.book.items logs k.shards.items) (sym put-same)
+          before.logs),
     )
 
 -- an entry whose messages are in the pool is decided
@@ -257,6 +237,6 @@ module _ (k : Cluster) (before : Refines k) (i l : ℕ) (inside : i < length k.m
 
 -- a log that took its message works
 pub log-works : (k : Cluster) (l : ℕ) (role later : LogRole) → slice_get k.logs.items l ≡ Some role
-    → Refines (record k { logs = with_item k.logs l later }) → later.core.is_failed ≡ false
+    → Refines (record k { logs = with_item k.logs l later }) → later.state.is_failed ≡ false
 log-works k l role later at refines =
     (refines.logs.each_log l later (set-here k.logs.items l later (slice_get_within k.logs.items l role at))).works

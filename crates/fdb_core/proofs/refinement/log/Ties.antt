@@ -39,8 +39,8 @@ use Rattle.fdb_core.specs.refinement.log.Ties.{LogRefines, ShardRefines, TagRefi
 module _ (config : Config) (book : List Entry) where
   -- and drops what a tag was popped through
   pub log-popped : (l : ℕ) (role : LogRole) (tag through : ℕ) (new : Log)
-      → LogRefines config book l role → HasPopped role.core tag through new
-      → LogRefines config book l (record { core = new; taken = role.taken })
+      → LogRefines config book l role → HasPopped role.state tag through new
+      → LogRefines config book l (record { state = new; taken = role.taken })
   log-popped l role tag through new before popped = record {
     number = popped.same.log ∙ before.number;
     logs = popped.same.logs ∙ before.logs;
@@ -49,12 +49,12 @@ module _ (config : Config) (book : List Entry) where
     within = before.within;
     last = popped.last ∙ before.last;
     kept = kept-popped (λ (it : ℕ). messages_for config.resolver_splits (piece config.shard_splits it)
-        (take role.taken book)) tag through role.core new before.kept popped;
+        (take role.taken book)) tag through role.state new before.kept popped;
   }
 
   -- a shard is where the entries that it applied leave it
   pub shard-at : (s : ℕ) (role : ShardRole) → ShardRefines config book s role
-      → IsShardAt config (take role.applied book) s role.core
+      → IsShardAt config (take role.applied book) s role.state
   shard-at s role is = record {
     tag = is.tag;
     range = is.range;
@@ -65,10 +65,10 @@ module _ (config : Config) (book : List Entry) where
   }
 
   -- and one that is there applied them
-  pub shard-refines : (s applied popped : ℕ) (core : Shard) → IsShardAt config (take applied book) s core
-      → applied ≤ length book → popped ≤ core.version
-      → ShardRefines config book s (record { core = core; applied = applied; popped = popped })
-  shard-refines s applied popped core at within dropped = record {
+  pub shard-refines : (s applied popped : ℕ) (state : Shard) → IsShardAt config (take applied book) s state
+      → applied ≤ length book → popped ≤ state.version
+      → ShardRefines config book s (record { state = state; applied = applied; popped = popped })
+  shard-refines s applied popped state at within dropped = record {
     tag = at.tag;
     range = at.range;
     works = at.works;
@@ -84,8 +84,8 @@ module _ (config : Config) (book : List Entry)
     (entries : AreEntries (suc (length config.resolver_splits)) 0 book) (s l limit : ℕ) (shard : ShardRole)
     (log : LogRole)
     (has : LogRefines config book l log) (is : ShardRefines config book s shard)
-    (keeps_it : keeps log.core s ≡ true) (behind : shard.applied ≤ log.taken)
-    (unpopped : popped_through log.core s ≤ shard.core.version) where
+    (keeps_it : keeps log.state s ≡ true) (behind : shard.applied ≤ log.taken)
+    (unpopped : popped_through log.state s ≤ shard.state.version) where
   abbrev pub splits : List Point
   splits = config.resolver_splits
 
@@ -127,42 +127,43 @@ module _ (config : Config) (book : List Entry)
   left-is : take limit left ≡ more
   left-is = take-both limit (log.taken - shard.applied) (drop shard.applied book)
 
-  kept-is : kept log.core s ≡ above (popped_through log.core s) (messages_for splits range (front ++ left))
+  kept-is : kept log.state s ≡ above (popped_through log.state s) (messages_for splits range (front ++ left))
   kept-is = has.kept s keeps_it
-      ∙ ap (λ (all : List Entry). above (popped_through log.core s) (messages_for splits range all)) taken-is
+      ∙ ap (λ (all : List Entry). above (popped_through log.state s) (messages_for splits range all)) taken-is
 
-  unpopped-front : popped_through log.core s ≤ last_version front
-  unpopped-front = subst (λ (v : ℕ). popped_through log.core s ≤ v) is.version unpopped
+  unpopped-front : popped_through log.state s ≤ last_version front
+  unpopped-front = subst (λ (v : ℕ). popped_through log.state s ≤ v) is.version unpopped
 
-  given-is : given_after log.core s shard.core.version limit ≡ messages_after splits range (seen_of front) more
+  given-is : given_after log.state s shard.state.version limit ≡ messages_after splits range (seen_of front) more
   given-is =
-      ap (λ (v : ℕ). given_after log.core s v limit) is.version
-      ∙ gives-messages config front left entries-taken s limit log.core kept-is unpopped-front
+      ap (λ (v : ℕ). given_after log.state s v limit) is.version
+      ∙ gives-messages config front left entries-taken s limit log.state kept-is unpopped-front
       ∙ ap (messages_after splits range (seen_of front)) left-is
 
   within : shard.applied + count ≤ length book
   within = omega (arith, has.within, behind)
 
-  pub count-is : length (given_after log.core s shard.core.version limit) ≡ count
+  pub count-is : length (given_after log.state s shard.state.version limit) ≡ count
   count-is =
       ap length given-is ∙ count-messages splits range (seen_of front) more
       ∙ length-take count (drop shard.applied book)
       ∙ (let rest = length-drop shard.applied book in omega (arith, rest, within))
 
   -- they go through the version of the last entry that the shard has then applied
-  pub through-is : (peek_of log.core s shard.core.version limit).through
+  pub through-is : (peek_of log.state s shard.state.version limit).through
       ≡ last_version (front ++ more)
   through-is =
-      ap (λ (v : ℕ). (peek_of log.core s v limit).through) is.version
-      ∙ gives-through config front left entries-taken s limit log.core kept-is unpopped-front
+      ap (λ (v : ℕ). (peek_of log.state s v limit).through) is.version
+      ∙ gives-through config front left entries-taken s limit log.state kept-is unpopped-front
       ∙ ap (λ (those : List Entry). last_version (front ++ those)) left-is
 
   -- the shard then answers from the run of these entries
-  pub shard-pulled : (new : Shard) → HasApplied shard.core (peek_of log.core s shard.core.version limit) new
-      → ShardRefines config book s (record shard { core = new; applied = shard.applied + count })
+  pub shard-pulled : (new : Shard) → HasApplied shard.state (peek_of log.state s shard.state.version limit) new
+      → ShardRefines config book s (record shard { state = new; applied = shard.applied + count })
   shard-pulled new applied =
-      let next : IsShardAt config (front ++ more) s new = shard-applied config front more entries-whole s shard.core
-      new (peek_of log.core s shard.core.version limit) (shard-at config book s shard is) through-is given-is applied in
+      let next : IsShardAt config (front ++ more) s new = shard-applied config front more entries-whole s shard.state
+      new (peek_of log.state s shard.state.version limit) (shard-at config book s shard is)
+      through-is given-is applied in
       let later = front-version front more (entries-linked resolvers 0 (front ++ more) entries-whole) in
       let low = is.popped in
       shard-refines config book s (shard.applied + count) shard.popped new
@@ -209,12 +210,12 @@ turn_fault taken i entry =
 pub push_fault-turn : (config : Config) (book : List Entry) (l : ℕ) (role : LogRole) (i : ℕ) (entry : Entry)
     (message : LogMsg)
     → AreEntries (suc (length config.resolver_splits)) 0 book → LogRefines config book l role
-    → slice_get book i ≡ Some entry → message.log ≡ l → message.prev ≡ entry.prev → push_fault role.core message
+    → slice_get book i ≡ Some entry → message.log ≡ l → message.prev ≡ entry.prev → push_fault role.state message
     ≡ turn_fault role.taken i entry
 push_fault-turn config book l role i entry message entries is there log prev =
-    cond-false (not (message.log == role.core.log)) (Some Unknown) _
-    (ap not (eq-eqb message.log role.core.log (log ∙ sym is.number)))
-    ∙ cond-false role.core.is_failed (Some Failed) _ is.works
+    cond-false (not (message.log == role.state.log)) (Some Unknown) _
+    (ap not (eq-eqb message.log role.state.log (log ∙ sym is.number)))
+    ∙ cond-false role.state.is_failed (Some Failed) _ is.works
     ∙ ap₂ (λ (late early : Bool). if late then Some Stale else (if early then Some (NotYet message.prev) else None))
     (ap₂ nat_lt before is.last ∙ version-test book rising i role.taken inside is.within)
     (ap₂ nat_lt is.last before ∙ version-test book rising role.taken i is.within inside)
@@ -276,14 +277,14 @@ set-cases (z ∷ zs) (suc i) x (suc j) y there = ⊎_elim
 -- a log that took more, and popped what it had popped of each tag, serves its shards as before
 pub tags-taken : (logs : List LogRole) (l : ℕ) (old new : LogRole) (shards : List ShardRole)
     → slice_get logs l ≡ Some old → old.taken ≤ new.taken
-    → ((tag : ℕ) → popped_through new.core tag ≡ popped_through old.core tag)
+    → ((tag : ℕ) → popped_through new.state tag ≡ popped_through old.state tag)
     → Each (TagRefines logs) shards → Each (TagRefines (slice_set logs l new)) shards
 tags-taken logs l old new shards at more same before s shard there log found =
     ⊎_elim
     (λ is.
     let its : slice_get logs (log_of (length logs) s) ≡ Some old = ap (slice_get logs) is.0 ∙ at in
     let tie = before s shard there old its in
-    subst (λ (role : LogRole). (shard.applied ≤ role.taken) × (popped_through role.core s ≡ shard.popped)) is.1
+    subst (λ (role : LogRole). (shard.applied ≤ role.taken) × (popped_through role.state s ≡ shard.popped)) is.1
     (le_trans tie.0 more, same s ∙ tie.1))
     (λ other. before s shard there log other.1)
     (set-cases logs l new (log_of (length logs) s) log (number found))
@@ -305,8 +306,8 @@ tags-applied logs shards s old new at within same before =
 pub tags-popped : (logs : List LogRole) (shards : List ShardRole) (s : ℕ) (old new : ShardRole) (log popped : LogRole)
     → slice_get shards s ≡ Some old → slice_get logs (log_of (length logs) s) ≡ Some log
     → new.applied ≡ old.applied → popped.taken ≡ log.taken
-    → popped_through popped.core s ≡ new.popped
-    → ((other : ℕ) → (other == s) ≡ false → popped_through popped.core other ≡ popped_through log.core other)
+    → popped_through popped.state s ≡ new.popped
+    → ((other : ℕ) → (other == s) ≡ false → popped_through popped.state other ≡ popped_through log.state other)
     → Each (TagRefines logs) shards
     → Each (TagRefines (slice_set logs (log_of (length logs) s) popped)) (slice_set shards s new)
 tags-popped logs shards s old new log popped there at applied
@@ -320,9 +321,9 @@ tags-popped logs shards s old new log popped there at applied
         (sym (length-set logs (log_of (length logs) s) popped)) ∙ its
 
     Tie : LogRole → ShardRole → Type 0
-    Tie role it = (it.applied ≤ role.taken) × (popped_through role.core t ≡ it.popped)
+    Tie role it = (it.applied ≤ role.taken) × (popped_through role.state t ≡ it.popped)
 
-    own-tag : t ≡ s → new ≡ shard → (shard.applied ≤ its-log.taken) × (popped_through its-log.core t ≡ shard.popped)
+    own-tag : t ≡ s → new ≡ shard → (shard.applied ≤ its-log.taken) × (popped_through its-log.state t ≡ shard.popped)
     own-tag same is = ⊎_elim
         (λ at_log.
         let tie = before s old there log at in
@@ -331,20 +332,20 @@ tags-popped logs shards s old new log popped there at applied
         (subst (λ (n : ℕ). n ≤ log.taken) (sym applied
         ∙ ap (λ (role : ShardRole). role.applied) is) tie.0) in (
           within,
-          ap (λ (role : LogRole). popped_through role.core t) (sym at_log.1)
-              ∙ ap (popped_through popped.core) same ∙ own ∙ ap (λ (role : ShardRole). role.popped) is,
+          ap (λ (role : LogRole). popped_through role.state t) (sym at_log.1)
+              ∙ ap (popped_through popped.state) same ∙ own ∙ ap (λ (role : ShardRole). role.popped) is,
         ))
         (λ elsewhere. absurd (elsewhere.0 (ap (log_of (length logs)) same)))
         (set-cases logs (log_of (length logs) s) popped (log_of (length logs) t) its-log number)
 
     other-tag : (t ≡ s → ⊥) → slice_get shards t ≡ Some shard
-        → (shard.applied ≤ its-log.taken) × (popped_through its-log.core t ≡ shard.popped)
+        → (shard.applied ≤ its-log.taken) × (popped_through its-log.state t ≡ shard.popped)
     other-tag differs before-it = ⊎_elim
         (λ at_log.
         let tie = before t shard before-it log (ap (slice_get logs) at_log.0 ∙ at) in
         let other : (t == s) ≡ false = false_from_ne_true (t == s) (λ same. differs (eqb-true t s same)) in (
           subst (λ (n : ℕ). shard.applied ≤ n) (sym taken ∙ ap (λ (role : LogRole). role.taken) at_log.1) tie.0,
-          ap (λ (role : LogRole). popped_through role.core t) (sym at_log.1) ∙ others t other ∙ tie.1,
+          ap (λ (role : LogRole). popped_through role.state t) (sym at_log.1) ∙ others t other ∙ tie.1,
         ))
         (λ elsewhere. before t shard before-it its-log elsewhere.1)
         (set-cases logs (log_of (length logs) s) popped (log_of (length logs) t) its-log number)

@@ -26,6 +26,7 @@ use Rattle.fdb_roles.specs.AtBook.{IsResolverAt}
 use Rattle.fdb_core.specs.refinement.resolver.Resolving.{IsLeftBy}
 use Rattle.fdb_roles.proofs.Exports.{within-item, each-set, map-set, one-item, read-there, set-here}
 use Rattle.fdb_core.proofs.refinement.RestoringLemmas.{restored, restores-at, restores-set, restores-failed, flags-same}
+use Rattle.fdb_core.proofs.refinement.RolesLemmas.{roles-refine}
 use Rattle.fdb_core.proofs.refinement.resolver.Resolving.{ToResolve}
 use Rattle.fdb_core.proofs.refinement.StepLemmas.{NamesWhatIsThere, in-turn}
 
@@ -42,14 +43,14 @@ as-many part old verdicts is = count part.version (version_at old.versions) part
     count version f (item ∷ items) (answer ∷ answers) all =
         ap suc (count version (versions_with version item answer.1 f) items answers all.2)
 
--- one that took nothing and whose core is as it was is what it was
+-- one that took nothing and whose state is as it was is what it was
 resolver-same : (splits : List Point) (book : List Entry) (i : ℕ) (role later : ResolverRole)
-    → ResolverRefines splits book i role → IsLeftBy role later → later.core ≡ role.core
+    → ResolverRefines splits book i role → IsLeftBy role later → later.state ≡ role.state
     → ResolverRefines splits book i later
 resolver-same splits book i role later ok left same = record {
   within = subst (λ (n : ℕ). n ≤ length book) (sym left.taken) ok.within;
-  state = subst (λ (core : Resolver). IsResolverAt splits (take later.taken book) i core) (sym same)
-      (subst (λ (n : ℕ). IsResolverAt splits (take n book) i role.core) (sym left.taken) ok.state);
+  state = subst (λ (state : Resolver). IsResolverAt splits (take later.taken book) i state) (sym same)
+      (subst (λ (n : ℕ). IsResolverAt splits (take n book) i role.state) (sym left.taken) ok.state);
   count = ap (λ (sent : List Verdicts). length sent) left.sent ∙ ok.count ∙ sym left.taken;
   sent = subst (HaveBeenSent splits book i) (sym left.sent) ok.sent;
 }
@@ -58,7 +59,7 @@ resolver-same splits book i role later ok left same = record {
 pub resolver-left : (k : Cluster) (tied : Tied k) (entry r : ℕ) (role later : ResolverRole)
     → slice_get k.resolvers.items r ≡ Some role → resolver_failed role ≡ false → IsLeftBy role later
     → LeftOrFailed k (step.Resolve entry r) (record k { resolvers = with_item k.resolvers r later })
-resolver-left k tied entry r role later at works left = ⊎_elim by-core by-failure left.core
+resolver-left k tied entry r role later at works left = ⊎_elim by-state by-failure left.state
   where
     new : Cluster
     new = record k { resolvers = with_item k.resolvers r later }
@@ -70,41 +71,31 @@ resolver-left k tied entry r role later at works left = ⊎_elim by-core by-fail
     was : slice_get tied.roles.resolvers.items r ≡ Some role
     was = restores-at _ _ k.resolvers.items tied.roles.resolvers.items tied.resolvers r role at works
 
-    by-core : later.core ≡ role.core → LeftOrFailed k (step.Resolve entry r) new
-    by-core same = record {
+    by-state : later.state ≡ role.state → LeftOrFailed k (step.Resolve entry r) new
+    by-state same = record {
       machine = machine;
       failed = inl (ap (λ (flags : List Bool). record (failures_of k) { resolvers = flags })
           (flags-same resolver_failed k.resolvers.items r role later at
-          (ap (λ (core : Resolver). core.is_failed) same)));
+          (ap (λ (state : Resolver). state.is_failed) same)));
       tied = record {
         roles = record tied.roles { resolvers = with_item tied.roles.resolvers r later };
         commit_proxies = tied.commit_proxies;
         resolvers = restores-set _ _ k.resolvers.items tied.roles.resolvers.items tied.resolvers r later;
         logs = tied.logs;
         shards = tied.shards;
-        refines = let before = tied.refines in record {
-          legal = before.legal;
-          room = before.room;
-          sequencer = before.sequencer;
-          book = before.book;
-          parts = before.parts;
-          resolvers = record {
-            count = length-set tied.roles.resolvers.items r later ∙ before.resolvers.count;
-            each = each-set (ResolverRefines k.config.resolver_splits k.book.items) tied.roles.resolvers.items r later
-                before.resolvers.each
-                (λ _. resolver-same k.config.resolver_splits k.book.items r role later
-                (before.resolvers.each r role was) left same);
-          };
-          logs = before.logs;
-          shard_map = before.shard_map;
-          commit_proxies = before.commit_proxies;
-          grv_proxies = before.grv_proxies;
-          opened = before.opened;
-        };
+        refines = let before = tied.refines in
+            roles-refine (restored k tied) before
+            (record tied.roles { resolvers = with_item tied.roles.resolvers r later }) before.commit_proxies (record {
+              count = length-set tied.roles.resolvers.items r later ∙ before.resolvers.count;
+              each = each-set (ResolverRefines k.config.resolver_splits k.book.items) tied.roles.resolvers.items r later
+                  before.resolvers.each
+                  (λ _. resolver-same k.config.resolver_splits k.book.items r role later
+                  (before.resolvers.each r role was) left same);
+            }) before.logs;
       };
     }
 
-    by-failure : HasFailed role.core later.core → LeftOrFailed k (step.Resolve entry r) new
+    by-failure : HasFailed role.state later.state → LeftOrFailed k (step.Resolve entry r) new
     by-failure failed = record {
       machine = machine;
       failed = inr (ap (λ (flags : List Bool). record (failures_of k) { resolvers = flags })
@@ -130,7 +121,7 @@ resolves-there m i r entry taken there at = record { refused = rw (there, at) (i
 
 -- a resolver that took its part works
 pub works-now : (k : Cluster) (r : ℕ) (role later : ResolverRole) → slice_get k.resolvers.items r ≡ Some role
-    → Refines (record k { resolvers = with_item k.resolvers r later }) → later.core.is_failed ≡ false
+    → Refines (record k { resolvers = with_item k.resolvers r later }) → later.state.is_failed ≡ false
 works-now k r role later at refines =
     (refines.resolvers.each r later (set-here k.resolvers.items r later
     (slice_get_within k.resolvers.items r role at))).state.works
@@ -146,14 +137,14 @@ pub find-here : (k : Cluster) (tied : Tied k) (i r : ℕ) (tested read role : Re
     → i < length k.book.items → r < length k.resolvers.items
     → tested ≡ get_or k.resolvers.items r tested → read ≡ get_or k.resolvers.items r read
     → role ≡ get_or k.resolvers.items r role → pool ≡ get_or k.parts.items i pool → of ≡ pool
-    → tested.core.is_failed ≡ false → read.taken ≡ i → FoundHere k tied i r role of
+    → tested.state.is_failed ≡ false → read.taken ≡ i → FoundHere k tied i r role of
 find-here k tied i r tested read role pool of within exists tests reads is parts copied works due =
     let at = read-there k.resolvers.items r role exists is in
     let entry = within-item k.book.items i within in
     let mine : tested ≡ role = one-item k.resolvers.items r tested role exists tests at in
     let same : read ≡ role = one-item k.resolvers.items r read role exists reads at in
-    let working : role.core.is_failed ≡ false =
-    ap (λ (it : ResolverRole). it.core.is_failed) (sym mine) ∙ works in
+    let working : role.state.is_failed ≡ false =
+    ap (λ (it : ResolverRole). it.state.is_failed) (sym mine) ∙ works in
     let count = tied.refines.parts.count in
     record {
       here = at;

@@ -26,35 +26,36 @@ use Rattle.fdb_machine.specs.machine.RoleSteps.{resolves}
 use Rattle.fdb_core.specs.refinement.Cluster.{machine_of, Refines}
 use Rattle.fdb_roles.specs.ProxyStages.{ArePartsOf}
 use Rattle.fdb_core.specs.refinement.resolver.Resolving.{ResolverRefines, ResolversRefine, TakesNext, taken_by}
+use Rattle.fdb_core.proofs.refinement.RolesLemmas.{roles_of, roles-refine}
 use Rattle.fdb_roles.specs.AtBook.{IsResolverAt}
 use Rattle.fdb_roles.proofs.Exports.{within-item, answers-fault, hands-on, each-set, front-at, last-at, map-at, map-set}
 use Rattle.fdb_roles.proofs.Exports.{one-item, entries-take, take-next, follows, are-parts, may-take, takes}
 use Rattle.fdb_machine.proofs.Exports.{resolves-transition}
 
 module _ (splits : List Point) (before : List Entry) (entry : Entry) (i index : ℕ) (old : ResolverRole)
-    (at : IsResolverAt splits before i old.core) (entries : AreEntries (suc (length splits)) 0 (before ++ entry ∷ []))
+    (at : IsResolverAt splits before i old.state) (entries : AreEntries (suc (length splits)) 0 (before ++ entry ∷ []))
     (part : Part) (of : IsPartOf splits (moves_through (seen_of before) entry)
     (record { index = index; version = entry.version; prev = entry.prev }) entry.batch i part) where
-  no-fault : part_fault old.core part ≡ None
-  no-fault = may-take splits before entry entries index i old.core part at of
+  no-fault : part_fault old.state part ≡ None
+  no-fault = may-take splits before entry entries index i old.state part at of
 
   -- it lacks memory alone
   pub lacks-memory-alone : (new : ResolverRole) (why : Refusal)
-      → Answers {T = Verdicts} (Err why) (part_fault old.core part) (IsAnswer old.core part)
+      → Answers {T = Verdicts} (Err why) (part_fault old.state part) (IsAnswer old.state part)
       → Answers {T = List (ℕ × Verdict)} (Err why) None (λ answer. TakesNext splits before entry i index old answer new)
-  lacks-memory-alone new why answers = hands-on why (part_fault old.core part) None (IsAnswer old.core part)
+  lacks-memory-alone new why answers = hands-on why (part_fault old.state part) None (IsAnswer old.state part)
       (λ (answer : List (ℕ × Verdict)). TakesNext splits before entry i index old answer new) no-fault answers
 
   -- it says what the rule says
   pub takes-next : (later : Resolver) (verdicts : Verdicts) (answer : List (ℕ × Verdict))
       (new : ResolverRole)
-      → Answers (Ok verdicts) (part_fault old.core part) (IsAnswer old.core part)
-      → HasTaken old.core part verdicts later → answer ≡ verdicts.answers
-      → new.core ≡ later → new.taken ≡ old.taken + 1 → new.sent.items ≡ old.sent.items ++ verdicts ∷ []
+      → Answers (Ok verdicts) (part_fault old.state part) (IsAnswer old.state part)
+      → HasTaken old.state part verdicts later → answer ≡ verdicts.answers
+      → new.state ≡ later → new.taken ≡ old.taken + 1 → new.sent.items ≡ old.sent.items ++ verdicts ∷ []
       → TakesNext splits before entry i index old answer new
   takes-next later verdicts answer new said taken same core_is count added =
-      let is = (answers-fault (part_fault old.core part) verdicts (IsAnswer old.core part) said).1 in
-      let took = takes splits before entry entries index i old.core part at of later (Some verdicts.answers)
+      let is = (answers-fault (part_fault old.state part) verdicts (IsAnswer old.state part) said).1 in
+      let took = takes splits before entry entries index i old.state part at of later (Some verdicts.answers)
       (record { verdicts = verdicts; said_them = refl; answer = is; taken = taken }) in
       let rule : verdicts.answers ≡ verdicts_on splits i (seen_of before) entry = same-some verdicts.answers _ took.0 in
       record {
@@ -91,8 +92,8 @@ module _ (k : Cluster) (refines : Refines k) (i r : ℕ) (entry : Entry) (role :
   ok : ResolverRefines splits book r role
   ok = refines.resolvers.each r role at
 
-  at-entry : IsResolverAt splits (take i book) r role.core
-  at-entry = subst (λ (n : ℕ). IsResolverAt splits (take n book) r role.core) due ok.state
+  at-entry : IsResolverAt splits (take i book) r role.state
+  at-entry = subst (λ (n : ℕ). IsResolverAt splits (take n book) r role.state) due ok.state
 
   -- its part in the pool
   pub parts-within : i < length k.parts.items
@@ -138,9 +139,9 @@ module _ (k : Cluster) (refines : Refines k) (i r : ℕ) (entry : Entry) (role :
         let old_count = ok.count in
         record {
           within = omega (arith, inside, next);
-          state = subst (λ (n : ℕ). IsResolverAt splits (take n book) r later.core)
+          state = subst (λ (n : ℕ). IsResolverAt splits (take n book) r later.state)
               (let same : suc i ≡ later.taken = omega (arith, next) in same)
-              (subst (λ (all : List Entry). IsResolverAt splits all r later.core) (sym front) took.state);
+              (subst (λ (all : List Entry). IsResolverAt splits all r later.state) (sym front) took.state);
           count = ap (λ (sent : List Verdicts). length sent) took.sent
               ∙ length-append role.sent.items (took.verdicts ∷ []) ∙ omega (arith, old_count, next, due);
           sent = record {
@@ -205,19 +206,8 @@ module _ (k : Cluster) (refines : Refines k) (i r : ℕ) (entry : Entry) (role :
             answer = answered.Verdicts (sym took.rule j);
             next = record (machine_of k) { resolvers = sym taken-next j };
           })),
-      record {
-        legal = refines.legal;
-        room = refines.room;
-        sequencer = refines.sequencer;
-        book = refines.book;
-        parts = refines.parts;
-        resolvers = resolvers-next;
-        logs = refines.logs;
-        shard_map = refines.shard_map;
-        commit_proxies = refines.commit_proxies;
-        grv_proxies = refines.grv_proxies;
-        opened = refines.opened;
-      },
+      roles-refine k refines (record (roles_of k) { resolvers = with_item k.resolvers r later })
+          refines.commit_proxies resolvers-next refines.logs,
     )
 
 -- What is found where a resolver is to take its part of an entry: the entry, the resolver, and the parts in the pool.
@@ -261,7 +251,7 @@ module _ (k : Cluster) (refines : Refines k) (i r : ℕ) (role : ResolverRole) (
     -- what the resolver answers, by the contract of its call
     abbrev Takes : (result : Result (List (ℕ × Verdict)) Refusal) → ResolverRole → Type 0
     Takes result later =
-        (by : List Point) (before : List Entry) (entry : Entry) (n index : ℕ) → IsResolverAt by before n role.core
+        (by : List Point) (before : List Entry) (entry : Entry) (n index : ℕ) → IsResolverAt by before n role.state
         → AreEntries (suc (length by)) 0 (before ++ entry ∷ [])
         → IsPartOf by (moves_through (seen_of before) entry)
         (record { index = index; version = entry.version; prev = entry.prev }) entry.batch n part

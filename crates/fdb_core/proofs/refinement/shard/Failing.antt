@@ -16,11 +16,11 @@ use Rattle.fdb_core.proofs.refinement.shard.Steps.{shard-same}
 use Rattle.fdb_core.proofs.refinement.StepLemmas.{IsKept}
 use Rattle.fdb_core.proofs.refinement.RestoringLemmas.{restored, restores-at, restores-set, restores-failed, flags-same}
 
--- one whose core is as it was leaves the world as it was
-pub shard-kept : (k : Cluster) (tied : Tied k) (s : ℕ) (role : ShardRole) (core : Shard)
-    → slice_get k.shards.items s ≡ Some role → shard_failed role ≡ false → core ≡ role.core
-    → IsKept k (record k { shards = with_item k.shards s (record role { core = core }) })
-shard-kept k tied s role core at works same = record {
+-- one whose state is as it was leaves the world as it was
+pub shard-kept : (k : Cluster) (tied : Tied k) (s : ℕ) (role : ShardRole) (state : Shard)
+    → slice_get k.shards.items s ≡ Some role → shard_failed role ≡ false → state ≡ role.state
+    → IsKept k (record k { shards = with_item k.shards s (record role { state = state }) })
+shard-kept k tied s role state at works same = record {
   machine = ap (λ (shards : List ShardProgress). record (machine_of k) { shards = shards })
       (flags-same progress_of k.shards.items s role later at
       (ap (λ (it : Shard). record (progress_of role) { floor = it.floor }) same));
@@ -33,32 +33,32 @@ shard-kept k tied s role core at works same = record {
     logs = tied.logs;
     shards = restores-set _ _ k.shards.items tied.roles.shards.items tied.shards s later;
     refines = (shard-same (restored k tied) tied.refines s role
-        (restores-at _ _ k.shards.items tied.roles.shards.items tied.shards s role at works) core same).1;
+        (restores-at _ _ k.shards.items tied.roles.shards.items tied.shards s role at works) state same).1;
   };
 }
   where
     later : ShardRole
-    later = record role { core = core }
+    later = record role { state = state }
 
 -- it is as it was, or has failed and is as far as it was
-pub shard-left : (k : Cluster) (tied : Tied k) (s limit : ℕ) (role : ShardRole) (core : Shard)
+pub shard-left : (k : Cluster) (tied : Tied k) (s limit : ℕ) (role : ShardRole) (state : Shard)
     → slice_get k.shards.items s ≡ Some role → shard_failed role ≡ false
-    → (core ≡ role.core) ⊎ HasFailed role.core core
-    → LeftOrFailed k (step.Pull s limit) (record k { shards = with_item k.shards s (record role { core = core }) })
-shard-left k tied s limit role core at works left = ⊎_elim by-core by-failure left
+    → (state ≡ role.state) ⊎ HasFailed role.state state
+    → LeftOrFailed k (step.Pull s limit) (record k { shards = with_item k.shards s (record role { state = state }) })
+shard-left k tied s limit role state at works left = ⊎_elim by-state by-failure left
   where
     later : ShardRole
-    later = record role { core = core }
+    later = record role { state = state }
 
     new : Cluster
     new = record k { shards = with_item k.shards s later }
 
-    by-core : core ≡ role.core → LeftOrFailed k (step.Pull s limit) new
-    by-core same =
-        let stays = shard-kept k tied s role core at works same in
+    by-state : state ≡ role.state → LeftOrFailed k (step.Pull s limit) new
+    by-state same =
+        let stays = shard-kept k tied s role state at works same in
         record { machine = stays.machine; failed = inl stays.failed; tied = stays.tied }
 
-    by-failure : HasFailed role.core core → LeftOrFailed k (step.Pull s limit) new
+    by-failure : HasFailed role.state state → LeftOrFailed k (step.Pull s limit) new
     by-failure failed =
         let same : progress_of later ≡ progress_of role =
         ap (λ (floor : ℕ). record (progress_of role) { floor = floor }) failed.floor in

@@ -85,19 +85,19 @@ not-old version floor greatest why refused young =
 
 -- the shard has failed
 abbrev is_failed_role : ShardRole → Bool
-is_failed_role role = role.core.is_failed
+is_failed_role role = role.state.is_failed
 
 -- the shard holds some of the range, and has failed
 abbrev pub is_failed_in : Range → ShardRole → Bool
-is_failed_in range role = ranges_meet role.core.range range && role.core.is_failed
+is_failed_in range role = ranges_meet role.state.range range && role.state.is_failed
 
 -- or no longer serves the version
 abbrev pub is_behind_floor : ℕ → Range → ShardRole → Bool
-is_behind_floor version range role = ranges_meet role.core.range range && nat_lt version role.core.floor
+is_behind_floor version range role = ranges_meet role.state.range range && nat_lt version role.state.floor
 
 -- or doesn't serve it yet
 abbrev pub is_ahead_of : ℕ → Range → ShardRole → Bool
-is_ahead_of version range role = ranges_meet role.core.range range && nat_lt role.core.version version
+is_ahead_of version range role = ranges_meet role.state.range range && nat_lt role.state.version version
 
 module _ (reads : ShardReads) (readable : AreReadable reads) where
   abbrev pub owner : Point → ℕ
@@ -111,7 +111,7 @@ module _ (reads : ShardReads) (readable : AreReadable reads) where
 
   -- a shard holds those keys that it owns
   held-by : (i : ℕ) (role : ShardRole) (x : Point) → slice_get reads.shards i ≡ Some role
-      → point_lt x end_of_keys ≡ true → in_range role.core.range x ≡ (owner x == i)
+      → point_lt x end_of_keys ≡ true → in_range role.state.range x ≡ (owner x == i)
   held-by i role x there below =
       let inside = slice_get_within reads.shards i role there in
       ap (λ (range : Range). in_range range x) (readable.each i role there).range
@@ -120,7 +120,7 @@ module _ (reads : ShardReads) (readable : AreReadable reads) where
 
   -- and is who fails,
   failed-of : (i : ℕ) (role : ShardRole) (x : Point) → slice_get reads.shards i ≡ Some role → owner x ≡ i
-      → has_failed_at reads x ≡ role.core.is_failed
+      → has_failed_at reads x ≡ role.state.is_failed
   failed-of i role x there owns =
       ap (λ (flag : Option Bool). unwrap_or flag false)
       (ap (slice_get (map is_failed_role reads.shards)) owns ∙ slice_get-map is_failed_role reads.shards i
@@ -128,20 +128,20 @@ module _ (reads : ShardReads) (readable : AreReadable reads) where
 
   -- or doesn't serve them
   fault-of : (i : ℕ) (role : ShardRole) (x : Point) → slice_get reads.shards i ≡ Some role → owner x ≡ i
-      → point_fault reads x ≡ serving_fault reads.version role.core.floor role.core.version
+      → point_fault reads x ≡ serving_fault reads.version role.state.floor role.state.version
   fault-of i role x there owns =
       ap (shard_fault reads.book reads.version)
       (ap (slice_get (map progress_of reads.shards)) owns ∙ slice_get-map progress_of reads.shards i
       ∙ ap (option_map progress_of) there)
-      ∙ ap (serving_fault reads.version role.core.floor) (sym (readable.each i role there).version)
+      ∙ ap (serving_fault reads.version role.state.floor) (sym (readable.each i role there).version)
 
   -- at a key that it owns and serves it has what the run has, if it works
   value-of : (i : ℕ) (role : ShardRole) (x : Point) → slice_get reads.shards i ≡ Some role
-      → in_range role.core.range x ≡ true → role.core.is_failed ≡ false
-      → serving_fault reads.version role.core.floor role.core.version ≡ None
-      → value_at role.core reads.version x ≡ get (run_map reads) x
+      → in_range role.state.range x ≡ true → role.state.is_failed ≡ false
+      → serving_fault reads.version role.state.floor role.state.version ≡ None
+      → value_at role.state reads.version x ≡ get (run_map reads) x
   value-of i role x there inside works served =
-      let bounds = serving reads.version role.core.floor role.core.version served in
+      let bounds = serving reads.version role.state.floor role.state.version served in
       let it = readable.each i role there in
       it.serves works x bounds.0 bounds.1 (ap (λ (range : Range). in_range range x) (sym it.range) ∙ inside)
 
@@ -155,22 +155,22 @@ module _ (reads : ShardReads) (readable : AreReadable reads) where
 
     -- a shard that holds some of the range holds a point of it, and is who refuses that
     met : (i : ℕ) (role : ShardRole) → slice_get reads.shards i ≡ Some role
-        → ranges_meet role.core.range range ≡ true
+        → ranges_meet role.state.range range ≡ true
         → (x : Point) × (in_range range x ≡ true) × (owner x ≡ i)
     met i role there meets =
-        let common = common_from_meet role.core.range range meets in
+        let common = common_from_meet role.state.range range meets in
         let owns = sym (held-by i role common.0 there (below-end range common.0 legal common.2)) ∙ common.1 in
         (common.0, common.2, eqb-true (owner common.0) i owns)
 
     -- and each point of the range is held by a shard that holds some of it
     asked : (x : Point) → in_range range x ≡ true
         → (role : ShardRole) × (slice_get reads.shards (owner x) ≡ Some role)
-        × (ranges_meet role.core.range range ≡ true)
+        × (ranges_meet role.state.range range ≡ true)
     asked x inside =
         let one = within-item reads.shards (owner x) (owner-within x) in
-        let held : in_range one.0.core.range x ≡ true =
+        let held : in_range one.0.state.range x ≡ true =
         held-by (owner x) one.0 x one.1 (below-end range x legal inside) ∙ eq-eqb (owner x) (owner x) refl in
-        (one.0, one.1, meet_from_common one.0.core.range range x held inside)
+        (one.0, one.1, meet_from_common one.0.state.range range x held inside)
 
     -- a shard has failed that holds some of the range where one has that begins in it
     some_failed : list_any (has_failed_at reads) begins ≡ list_any (is_failed_in range) reads.shards
@@ -195,16 +195,16 @@ module _ (reads : ShardReads) (readable : AreReadable reads) where
         let parts = and_parts _ _ one.3 in
         let point = met one.0 one.1 one.2 parts.0 in
         too-old-range reads.config.shard_splits range (point_fault reads) (held_by_one reads) point.0 point.1
-        (fault-of one.0 one.1 point.0 one.2 point.2 ∙ cond-true (nat_lt reads.version one.1.core.floor) _ _ parts.1)
+        (fault-of one.0 one.1 point.0 one.2 point.2 ∙ cond-true (nat_lt reads.version one.1.state.floor) _ _ parts.1)
 
     module _ (young : list_any (is_behind_floor reads.version range) reads.shards ≡ false) where
       still : (i : ℕ) (role : ShardRole) → slice_get reads.shards i ≡ Some role
-          → ranges_meet role.core.range range ≡ true → nat_lt reads.version role.core.floor ≡ false
+          → ranges_meet role.state.range range ≡ true → nat_lt reads.version role.state.floor ≡ false
       still i role there meets = ⊎_elim
           (λ old. absurd (both_ways _ young (any-at (is_behind_floor reads.version range) reads.shards i role there
           (and_from _ _ meets old))))
           (λ no. no)
-          (cases_Bool (nat_lt reads.version role.core.floor))
+          (cases_Bool (nat_lt reads.version role.state.floor))
 
       -- otherwise it is not served yet, by a shard that isn't so far
       later : (why : Refusal) → served_fault ≡ Some why
@@ -212,7 +212,7 @@ module _ (reads : ShardReads) (readable : AreReadable reads) where
       later why refused =
           let point = of-range reads.config.shard_splits range (point_fault reads) (held_by_one reads) why refused in
           let one = asked point.0 point.1 in
-          let is = not-old reads.version one.0.core.floor one.0.core.version why
+          let is = not-old reads.version one.0.state.floor one.0.state.version why
           (sym (fault-of (owner point.0) one.0 point.0 one.1 refl) ∙ point.2)
           (still (owner point.0) one.0 one.1 one.2) in (
             any-at (is_ahead_of reads.version range) reads.shards (owner point.0) one.0 one.1
@@ -230,11 +230,11 @@ module _ (reads : ShardReads) (readable : AreReadable reads) where
               let one = some-at (is_ahead_of reads.version range) reads.shards is in
               let parts = and_parts _ _ one.3 in
               let point = met one.0 one.1 one.2 parts.0 in
-              let bounds = serving reads.version one.1.core.floor one.1.core.version
+              let bounds = serving reads.version one.1.state.floor one.1.state.version
               (sym (fault-of one.0 one.1 point.0 one.2 point.2)
               ∙ served-range reads.config.shard_splits range (point_fault reads) (held_by_one reads) point.0 point.1
               served) in
-              absurd (omega (arith, bounds.1, ltb-true one.1.core.version reads.version parts.1))
+              absurd (omega (arith, bounds.1, ltb-true one.1.state.version reads.version parts.1))
           by_fault (Some why) refused = ap (λ (refusal : Refusal). Some refusal) (later why refused).1
 
       -- so where there is none it is served
@@ -269,15 +269,15 @@ module _ (reads : ShardReads) (readable : AreReadable reads) where
     module _ (served : range_fault reads range ≡ None) where
       -- a shard that holds some of a range that isn't refused works,
       shard-works : (i : ℕ) (role : ShardRole) → slice_get reads.shards i ≡ Some role
-          → ranges_meet role.core.range range ≡ true → role.core.is_failed ≡ false
+          → ranges_meet role.state.range range ≡ true → role.state.is_failed ≡ false
       shard-works i role there meets = false_from_ne_true _ (λ failed.
           both_ways _ (sym some_failed ∙ (unrefused (list_any (has_failed_at reads) begins) served_fault served).0)
           (any-at (is_failed_in range) reads.shards i role there (and_from _ _ meets failed)))
 
       -- and serves the version
       shard-served : (i : ℕ) (role : ShardRole) → slice_get reads.shards i ≡ Some role
-          → ranges_meet role.core.range range ≡ true
-          → serving_fault reads.version role.core.floor role.core.version ≡ None
+          → ranges_meet role.state.range range ≡ true
+          → serving_fault reads.version role.state.floor role.state.version ≡ None
       shard-served i role there meets =
           let point = met i role there meets in
           sym (fault-of i role point.0 there point.2)
@@ -285,32 +285,33 @@ module _ (reads : ShardReads) (readable : AreReadable reads) where
           (unrefused (list_any (has_failed_at reads) begins) served_fault served).1
 
       module _ (i : ℕ) (role : ShardRole) (there : slice_get reads.shards i ≡ Some role) (part : Range)
-          (clipped : clipped_range range role.core.range ≡ Some part) where
-        part-of : (x : Point) → in_range part x ≡ (in_range range x && in_range role.core.range x)
+          (clipped : clipped_range range role.state.range ≡ Some part) where
+        part-of : (x : Point) → in_range part x ≡ (in_range range x && in_range role.state.range x)
         part-of x =
             ap (λ (clip : Option Range). in_clipped clip x) (sym clipped)
-            ∙ in_clipped-points range role.core.range x
+            ∙ in_clipped-points range role.state.range x
 
-        meets-part : ranges_meet role.core.range range ≡ true
+        meets-part : ranges_meet role.state.range range ≡ true
         meets-part = ⊎_elim
             (λ meets.
-            let common = common_from_meet range role.core.range meets in
-            meet_from_common role.core.range range common.0 common.2 common.1)
+            let common = common_from_meet range role.state.range meets in
+            meet_from_common role.state.range range common.0 common.2 common.1)
             (λ apart.
-            let nothing : None ≡ Some part = sym (cond-false (ranges_meet range role.core.range) _ _ apart) ∙ clipped in
+            let nothing : None ≡ Some part = sym (cond-false (ranges_meet range role.state.range) _ _ apart)
+            ∙ clipped in
             cc)
-            (cases_Bool (ranges_meet range role.core.range))
+            (cases_Bool (ranges_meet range role.state.range))
 
         -- it gives a page of what it holds of the range
-        pub page-served : storage.range_fault role.core part reads.version ≡ None
+        pub page-served : storage.range_fault role.state part reads.version ≡ None
         page-served =
-            let within : is_within part role.core.range ≡ true =
-            (within-points part role.core.range).1
+            let within : is_within part role.state.range ≡ true =
+            (within-points part role.state.range).1
             (λ x inside. (and_parts (in_range range x) _ (sym (part-of x) ∙ inside)).1) in
             rw (shard-works i role there meets-part, within) (shard-served i role there meets-part)
 
         -- which is one of the serial map
-        pub has-values : HasValuesOf role.core reads.version part (run_map reads)
+        pub has-values : HasValuesOf role.state reads.version part (run_map reads)
         has-values x inside = sym
             (value-of i role x there (and_parts (in_range range x) _ (sym (part-of x) ∙ inside)).1
             (shard-works i role there meets-part) (shard-served i role there meets-part))
@@ -326,7 +327,7 @@ module _ (reads : ShardReads) (readable : AreReadable reads) where
 
       -- one that holds nothing of it has no pair of it
       pub none-held : (i : ℕ) (role : ShardRole) → slice_get reads.shards i ≡ Some role
-          → clipped_range range role.core.range ≡ None → (is_reverse : Bool) → pairs_held reads i range is_reverse ≡ []
+          → clipped_range range role.state.range ≡ None → (is_reverse : Bool) → pairs_held reads i range is_reverse ≡ []
       none-held i role there clipped is_reverse =
           filter_none (λ pair. in_range (piece reads.config.shard_splits i) pair.0)
           (pairs_in (run_map reads) range is_reverse)
@@ -337,8 +338,8 @@ module _ (reads : ShardReads) (readable : AreReadable reads) where
         where
           outside : (x : Point) → in_range range x ≡ true → in_range (piece reads.config.shard_splits i) x ≡ false
           outside x inside = false_from_ne_true _ (λ held.
-              let apart : false ≡ (in_range range x && in_range role.core.range x) =
+              let apart : false ≡ (in_range range x && in_range role.state.range x) =
               ap (λ (clip : Option Range). in_clipped clip x) (sym clipped)
-              ∙ in_clipped-points range role.core.range x in
+              ∙ in_clipped-points range role.state.range x in
               both_ways _ (sym apart) (and_from _ _ inside
               (ap (λ (whole : Range). in_range whole x) (readable.each i role there).range ∙ held)))

@@ -27,6 +27,7 @@ use Rattle.fdb_core.specs.refinement.log.Ties.{progress_of}
 use Rattle.fdb_roles.proofs.Exports.{each-set, shard-forgot, entries-rising, versions-ordered}
 use Rattle.fdb_core.proofs.refinement.log.Ties.{set-same, log-popped, shard-pulled, count, count-is, tags-applied}
 use Rattle.fdb_core.proofs.refinement.log.Ties.{tags-popped, shard-at, shard-refines}
+use Rattle.fdb_core.proofs.refinement.RolesLemmas.{roles_of, roles-refine}
 
 -- what the machine does, once the shard and its log are found
 module _ (m : Machine) (s : ℕ) (progress : ShardProgress) (at : slice_get m.shards s ≡ Some progress) where
@@ -74,26 +75,15 @@ module _ (k : Cluster) (before : Refines k) (s : ℕ) (role : ShardRole)
       → new.applied ≤ log.taken)
       (popped : new.popped ≡ role.popped) where
     pub shard-put : Refines (record k { shards = with_item k.shards s new })
-    shard-put = record {
-      legal = before.legal;
-      room = before.room;
-      sequencer = before.sequencer;
-      book = before.book;
-      parts = before.parts;
-      resolvers = before.resolvers;
-      logs = record {
-        log_count = before.logs.log_count;
-        shard_count = length-set k.shards.items s new ∙ before.logs.shard_count;
-        each_log = before.logs.each_log;
-        each_shard = each-set (ShardRefines k.config k.book.items) k.shards.items s new before.logs.each_shard
-            (λ _. refined);
-        each_tag = tags-applied k.logs.items k.shards.items s role new at within popped before.logs.each_tag;
-      };
-      shard_map = before.shard_map;
-      commit_proxies = before.commit_proxies;
-      grv_proxies = before.grv_proxies;
-      opened = before.opened;
-    }
+    shard-put = roles-refine k before (record (roles_of k) { shards = with_item k.shards s new }) before.commit_proxies
+        before.resolvers (record {
+          log_count = before.logs.log_count;
+          shard_count = length-set k.shards.items s new ∙ before.logs.shard_count;
+          each_log = before.logs.each_log;
+          each_shard = each-set (ShardRefines k.config k.book.items) k.shards.items s new before.logs.each_shard
+              (λ _. refined);
+          each_tag = tags-applied k.logs.items k.shards.items s role new at within popped before.logs.each_tag;
+        })
 
   pub counted : (new : ShardRole)
       → map progress_of (slice_set k.shards.items s new)
@@ -101,38 +91,28 @@ module _ (k : Cluster) (before : Refines k) (s : ℕ) (role : ShardRole)
   counted new = map-set progress_of k.shards.items s new
 
   -- a shard that stays leaves the world as it is
-  pub shard-same : (core : Shard) → core ≡ role.core →
-      let later = record k { shards = with_item k.shards s (record role { core = core }) } in
+  pub shard-same : (state : Shard) → state ≡ role.state →
+      let later = record k { shards = with_item k.shards s (record role { state = state }) } in
       (machine_of later ≡ machine_of k) × Refines later
-  shard-same core same = (
+  shard-same state same = (
     ap (λ (shards : List ShardRole). record (machine_of k) { shards = map progress_of shards }) as-before,
-    record {
-      legal = before.legal;
-      room = before.room;
-      sequencer = before.sequencer;
-      book = before.book;
-      parts = before.parts;
-      resolvers = before.resolvers;
-      logs = subst (LogsRefine k.config k.book.items k.logs.items) (sym as-before) before.logs;
-      shard_map = before.shard_map;
-      commit_proxies = before.commit_proxies;
-      grv_proxies = before.grv_proxies;
-      opened = before.opened;
-    },
+    roles-refine k before (record (roles_of k) { shards = with_item k.shards s (record role { state = state }) })
+        before.commit_proxies before.resolvers
+        (subst (LogsRefine k.config k.book.items k.logs.items) (sym as-before) before.logs),
   )
     where
-      as-before : slice_set k.shards.items s (record role { core = core }) ≡ k.shards.items
-      as-before = ap (λ (it : Shard). slice_set k.shards.items s (record role { core = it })) same
+      as-before : slice_set k.shards.items s (record role { state = state }) ≡ k.shards.items
+      as-before = ap (λ (it : Shard). slice_set k.shards.items s (record role { state = it })) same
           ∙ set-same k.shards.items s role at
 
   -- the shard refuses to forget a version that it hasn't reached
-  pub forget_fault-is : (version : ℕ) → forget_fault role.core version
+  pub forget_fault-is : (version : ℕ) → forget_fault role.state version
       ≡ (if nat_lt (version_of_shard k.book.items (progress_of role)) version then Some FutureVersion else None)
   forget_fault-is version =
-      cond-false role.core.is_failed (Some Failed) _ its.works
+      cond-false role.state.is_failed (Some Failed) _ its.works
       ∙ ap (λ (greatest : ℕ). if nat_lt greatest version then Some FutureVersion else None) its.version
 
-  pub forget-refused : (version : ℕ) (why : Refusal) → forget_fault role.core version ≡ Some why
+  pub forget-refused : (version : ℕ) (why : Refusal) → forget_fault role.state version ≡ Some why
       → forgets (machine_of k) s version ≡ Err why
   forget-refused version why fault =
       by_test (nat_lt (version_of_shard k.book.items (progress_of role)) version) refl
@@ -145,7 +125,7 @@ module _ (k : Cluster) (before : Refines k) (s : ℕ) (role : ShardRole)
           forgets-late (machine_of k) s (progress_of role) progress-at version is ∙ ap (λ (it : Refusal). Err it) why_is
       by_test false is same = cc
 
-  module _ (version : ℕ) (faultless : forget_fault role.core version ≡ None) where
+  module _ (version : ℕ) (faultless : forget_fault role.state version ≡ None) where
     reached : nat_lt (version_of_shard k.book.items (progress_of role)) version ≡ false
     reached = by_test (nat_lt (version_of_shard k.book.items (progress_of role)) version)
         (sym (forget_fault-is version) ∙ faultless)
@@ -155,20 +135,20 @@ module _ (k : Cluster) (before : Refines k) (s : ℕ) (role : ShardRole)
         by_test false is = refl
 
     pub forget-accepted : forgets (machine_of k) s version ≡ Ok (record {
-      answer = answered.Version (max role.core.floor version);
+      answer = answered.Version (max role.state.floor version);
       next = record (machine_of k) {
         shards = slice_set (map progress_of k.shards.items) s
-            (record (progress_of role) { floor = max role.core.floor version });
+            (record (progress_of role) { floor = max role.state.floor version });
       };
     })
     forget-accepted = forgets-transition (machine_of k) s (progress_of role) progress-at version reached
 
-    pub forgot : (core : Shard) → HasForgotten role.core version core
-        → ShardRefines k.config k.book.items s (record role { core = core })
-    forgot core forgotten =
+    pub forgot : (state : Shard) → HasForgotten role.state version state
+        → ShardRefines k.config k.book.items s (record role { state = state })
+    forgot state forgotten =
         let low = its.popped in
-        shard-refines k.config k.book.items s role.applied role.popped core
-        (shard-forgot k.config (take role.applied k.book.items) s version role.core core
+        shard-refines k.config k.book.items s role.applied role.popped state
+        (shard-forgot k.config (take role.applied k.book.items) s version role.state state
         (shard-at k.config k.book.items s role its) faultless forgotten) its.within
         (omega (arith, low, forgotten.version))
 
@@ -186,41 +166,41 @@ module _ (k : Cluster) (before : Refines k) (s : ℕ) (role : ShardRole)
     pub tie : TagRefines k.logs.items s role
     tie = before.logs.each_tag s role at
 
-    pub keeps-it : keeps log.core s ≡ true
-    keeps-it = and_from (nat_lt s log.core.tags) (log_of log.core.logs s == log.core.log)
-        (lt-ltb s log.core.tags (subst (λ (n : ℕ). s < n) (before.logs.shard_count ∙ sym log-is.tags)
+    pub keeps-it : keeps log.state s ≡ true
+    keeps-it = and_from (nat_lt s log.state.tags) (log_of log.state.logs s == log.state.log)
+        (lt-ltb s log.state.tags (subst (λ (n : ℕ). s < n) (before.logs.shard_count ∙ sym log-is.tags)
         (slice_get_within k.shards.items s role at)))
-        (eq-eqb (log_of log.core.logs s) log.core.log
+        (eq-eqb (log_of log.state.logs s) log.state.log
         (ap (λ (n : ℕ). log_of n s) (log-is.logs ∙ sym before.logs.log_count) ∙ sym log-is.number))
 
-    pub unpopped : popped_through log.core s ≤ role.core.version
-    unpopped = subst (λ (n : ℕ). n ≤ role.core.version) (sym (tie log log_at).1) its.popped
+    pub unpopped : popped_through log.state s ≤ role.state.version
+    unpopped = subst (λ (n : ℕ). n ≤ role.state.version) (sym (tie log log_at).1) its.popped
 
     -- the log took what the shard applied
-    pub behind : role.core.version ≤ log.core.last
+    pub behind : role.state.version ≤ log.state.last
     behind =
         let reached = versions-ordered k.book.items (entries-rising (suc (length k.config.resolver_splits))
         k.book.items before.book.entries) role.applied log.taken (tie log log_at).0 in
         omega (arith, its.version, log-is.last, reached)
 
-    pub tag_fault-none : tag_fault log.core s role.core.version ≡ None
+    pub tag_fault-none : tag_fault log.state s role.state.version ≡ None
     tag_fault-none =
-        cond-false log.core.is_failed (Some Failed) _ log-is.works
-        ∙ rw (keeps-it, le-ltb log.core.last role.core.version behind) refl
+        cond-false log.state.is_failed (Some Failed) _ log-is.works
+        ∙ rw (keeps-it, le-ltb log.state.last role.state.version behind) refl
 
-    pub peek_fault-none : peek_fault log.core s role.core.version ≡ None
+    pub peek_fault-none : peek_fault log.state s role.state.version ≡ None
     peek_fault-none =
-        cond-false log.core.is_failed (Some Failed) _ log-is.works
+        cond-false log.state.is_failed (Some Failed) _ log-is.works
         ∙ rw (
           keeps-it,
-          le-ltb log.core.last role.core.version behind,
-          le-ltb role.core.version (popped_through log.core s) unpopped,
+          le-ltb log.state.last role.state.version behind,
+          le-ltb role.state.version (popped_through log.state s) unpopped,
         ) refl
 
     pub apply_fault-none : (limit : ℕ)
-        → apply_fault role.core (peek_of log.core s role.core.version limit) ≡ None
+        → apply_fault role.state (peek_of log.state s role.state.version limit) ≡ None
     apply_fault-none limit =
-        rw (eq-eqb s role.core.tag (sym its.tag), its.works, le-ltb role.core.version role.core.version (le_refl _))
+        rw (eq-eqb s role.state.tag (sym its.tag), its.works, le-ltb role.state.version role.state.version (le_refl _))
         refl
 
     -- how many messages are applied
@@ -241,13 +221,13 @@ module _ (k : Cluster) (before : Refines k) (s : ℕ) (role : ShardRole)
     pull-accepted limit = pulls-transition (machine_of k) s (progress_of role) progress-at limit log.taken
         (role.applied + given limit) taken-at (applied-is limit)
 
-    pub pulled : (limit : ℕ) (core : Shard)
-        → HasApplied role.core (peek_of log.core s role.core.version limit) core
-        → ShardRefines k.config k.book.items s (record role { core = core; applied = role.applied + given limit })
-    pulled limit core applied = shard-pulled k.config k.book.items before.book.entries s
-        (log_of (length k.logs.items) s) limit role log log-is its keeps-it (tie log log_at).0 unpopped core applied
+    pub pulled : (limit : ℕ) (state : Shard)
+        → HasApplied role.state (peek_of log.state s role.state.version limit) state
+        → ShardRefines k.config k.book.items s (record role { state = state; applied = role.applied + given limit })
+    pulled limit state applied = shard-pulled k.config k.book.items before.book.entries s
+        (log_of (length k.logs.items) s) limit role log log-is its keeps-it (tie log log_at).0 unpopped state applied
 
-    pub given-count : (limit : ℕ) → length (peek_of log.core s role.core.version limit).messages ≡ given limit
+    pub given-count : (limit : ℕ) → length (peek_of log.state s role.state.version limit).messages ≡ given limit
     given-count limit = count-is k.config k.book.items before.book.entries s
         (log_of (length k.logs.items) s) limit role log log-is its keeps-it (tie log log_at).0 unpopped
 
@@ -255,43 +235,36 @@ module _ (k : Cluster) (before : Refines k) (s : ℕ) (role : ShardRole)
     given-within limit = let ordered = (tie log log_at).0 in omega (arith, ordered)
 
     -- the log drops what the shard applied
-    pub popped : (core : Log) → HasPopped log.core s role.core.version core
+    pub popped : (state : Log) → HasPopped log.state s role.state.version state
         → Refines (record k {
-          logs = with_item k.logs (log_of (length k.logs.items) s) (record log { core = core });
-          shards = with_item k.shards s (record role { popped = role.core.version });
+          logs = with_item k.logs (log_of (length k.logs.items) s) (record log { state = state });
+          shards = with_item k.shards s (record role { popped = role.state.version });
         })
-    popped core drops = record {
-      legal = before.legal;
-      room = before.room;
-      sequencer = before.sequencer;
-      book = before.book;
-      parts = before.parts;
-      resolvers = before.resolvers;
-      logs = record {
-        log_count = length-set k.logs.items (log_of (length k.logs.items) s) log-new ∙ before.logs.log_count;
-        shard_count = length-set k.shards.items s shard-new ∙ before.logs.shard_count;
-        each_log = each-set (LogRefines k.config k.book.items) k.logs.items (log_of (length k.logs.items) s) log-new
-            before.logs.each_log
-            (λ _. log-popped k.config k.book.items (log_of (length k.logs.items) s) log s role.core.version core log-is
-            drops);
-        each_shard = each-set (ShardRefines k.config k.book.items) k.shards.items s shard-new before.logs.each_shard
-            (λ _. shard-is);
-        each_tag = tags-popped k.logs.items k.shards.items s role shard-new log log-new at log_at refl refl
-            (drops.popped ∙ greater) drops.others_popped before.logs.each_tag;
-      };
-      shard_map = before.shard_map;
-      commit_proxies = before.commit_proxies;
-      grv_proxies = before.grv_proxies;
-      opened = before.opened;
-    }
+    popped state drops = roles-refine k before
+        (record (roles_of k) {
+          logs = with_item k.logs (log_of (length k.logs.items) s) log-new;
+          shards = with_item k.shards s shard-new;
+        })
+        before.commit_proxies before.resolvers (record {
+          log_count = length-set k.logs.items (log_of (length k.logs.items) s) log-new ∙ before.logs.log_count;
+          shard_count = length-set k.shards.items s shard-new ∙ before.logs.shard_count;
+          each_log = each-set (LogRefines k.config k.book.items) k.logs.items (log_of (length k.logs.items) s) log-new
+              before.logs.each_log
+              (λ _. log-popped k.config k.book.items (log_of (length k.logs.items) s) log s role.state.version state
+              log-is drops);
+          each_shard = each-set (ShardRefines k.config k.book.items) k.shards.items s shard-new before.logs.each_shard
+              (λ _. shard-is);
+          each_tag = tags-popped k.logs.items k.shards.items s role shard-new log log-new at log_at refl refl
+              (drops.popped ∙ greater) drops.others_popped before.logs.each_tag;
+        })
       where
         log-new : LogRole
-        log-new = record log { core = core }
+        log-new = record log { state = state }
 
         shard-new : ShardRole
-        shard-new = record role { popped = role.core.version }
+        shard-new = record role { popped = role.state.version }
 
-        greater : max (popped_through log.core s) role.core.version ≡ role.core.version
+        greater : max (popped_through log.state s) role.state.version ≡ role.state.version
         greater = omega (arith, unpopped)
 
         shard-is : ShardRefines k.config k.book.items s shard-new
@@ -302,15 +275,15 @@ module _ (k : Cluster) (before : Refines k) (s : ℕ) (role : ShardRole)
           within = its.within;
           version = its.version;
           serving = its.serving;
-          popped = le_refl role.core.version;
+          popped = le_refl role.state.version;
           serves = its.serves;
         }
 
     pub pop-accepted : pops (machine_of k) s ≡ Ok (record {
-      answer = answered.Version role.core.version;
+      answer = answered.Version role.state.version;
       next = record (machine_of k) {
         shards = slice_set (map progress_of k.shards.items) s
-            (record (progress_of role) { popped = role.core.version });
+            (record (progress_of role) { popped = role.state.version });
       };
     })
     pop-accepted = pops-transition (machine_of k) s (progress_of role) progress-at
@@ -319,12 +292,12 @@ module _ (k : Cluster) (before : Refines k) (s : ℕ) (role : ShardRole)
 -- the same of a log that was found by what the shard's number leaves over the number of logs
 module _ (k : Cluster) (before : Refines k) (s n version : ℕ) (role : ShardRole) (log : LogRole)
     (at : slice_get k.shards.items s ≡ Some role) (count_is : n ≡ length k.logs.items)
-    (log_at : slice_get k.logs.items (s % n) ≡ Some log) (version_is : version ≡ role.core.version) where
+    (log_at : slice_get k.logs.items (s % n) ≡ Some log) (version_is : version ≡ role.state.version) where
   pub log-there : slice_get k.logs.items (log_of (length k.logs.items) s) ≡ Some log
   log-there = ap (λ (m : ℕ). slice_get k.logs.items (s % m)) (sym count_is) ∙ log_at
 
-  pub pop-faultless : tag_fault log.core s version ≡ None
-  pop-faultless = ap (tag_fault log.core s) version_is ∙ tag_fault-none k before s role at log log-there
+  pub pop-faultless : tag_fault log.state s version ≡ None
+  pop-faultless = ap (tag_fault log.state s) version_is ∙ tag_fault-none k before s role at log log-there
 
   pub pop-goes_on : pops (machine_of k) s ≡ Ok (record {
     answer = answered.Version version;
@@ -334,20 +307,20 @@ module _ (k : Cluster) (before : Refines k) (s n version : ℕ) (role : ShardRol
   })
   pop-goes_on = rw version_is (pop-accepted k before s role at log log-there)
 
-  pub pop-tied : (core : Log) → HasPopped log.core s version core
+  pub pop-tied : (state : Log) → HasPopped log.state s version state
       → Refines (record k {
-        logs = with_item k.logs (s % n) (record log { core = core });
+        logs = with_item k.logs (s % n) (record log { state = state });
         shards = with_item k.shards s (record role { popped = version });
       })
-  pop-tied core drops =
-      rw (count_is, version_is) (popped k before s role at log log-there core
-      (subst (λ (v : ℕ). HasPopped log.core s v core) version_is drops))
+  pop-tied state drops =
+      rw (count_is, version_is) (popped k before s role at log log-there state
+      (subst (λ (v : ℕ). HasPopped log.state s v state) version_is drops))
 
   -- the machine knows nothing of what a log dropped
-  pub pop-taken : (core : Log)
-      → logs_taken (slice_set k.logs.items (s % n) (record log { core = core })) ≡ logs_taken k.logs.items
-  pop-taken core =
-      map-set (λ (it : LogRole). it.taken) k.logs.items (s % n) (record log { core = core })
+  pub pop-taken : (state : Log)
+      → logs_taken (slice_set k.logs.items (s % n) (record log { state = state })) ≡ logs_taken k.logs.items
+  pop-taken state =
+      map-set (λ (it : LogRole). it.taken) k.logs.items (s % n) (record log { state = state })
       ∙ set-same (logs_taken k.logs.items) (s % n) log.taken
       (slice_get-map (λ (it : LogRole). it.taken) k.logs.items (s % n) ∙ rw log_at refl)
 
@@ -355,16 +328,16 @@ module _ (k : Cluster) (before : Refines k) (s n version : ℕ) (role : ShardRol
 module _ (k : Cluster) (before : Refines k) (s limit version : ℕ) (role : ShardRole) (log : LogRole)
     (at : slice_get k.shards.items s ≡ Some role)
     (log_at : slice_get k.logs.items (log_of (length k.logs.items) s) ≡ Some log)
-    (version_is : version ≡ role.core.version) where
-  pub peek-faultless : peek_fault log.core s version ≡ None
-  peek-faultless = ap (peek_fault log.core s) version_is ∙ peek_fault-none k before s role at log log_at
+    (version_is : version ≡ role.state.version) where
+  pub peek-faultless : peek_fault log.state s version ≡ None
+  peek-faultless = ap (peek_fault log.state s) version_is ∙ peek_fault-none k before s role at log log_at
 
-  module _ (peek : Peek) (peek_is : peek ≡ peek_of log.core s version limit) where
-    its-peek : peek ≡ peek_of log.core s role.core.version limit
-    its-peek = peek_is ∙ ap (λ (v : ℕ). peek_of log.core s v limit) version_is
+  module _ (peek : Peek) (peek_is : peek ≡ peek_of log.state s version limit) where
+    its-peek : peek ≡ peek_of log.state s role.state.version limit
+    its-peek = peek_is ∙ ap (λ (v : ℕ). peek_of log.state s v limit) version_is
 
-    pub apply-faultless : apply_fault role.core peek ≡ None
-    apply-faultless = ap (apply_fault role.core) its-peek ∙ apply_fault-none k before s role at log log_at limit
+    pub apply-faultless : apply_fault role.state peek ≡ None
+    apply-faultless = ap (apply_fault role.state) its-peek ∙ apply_fault-none k before s role at log log_at limit
 
     pub pull-count : length peek.messages ≡ given k before s role at log log_at limit
     pull-count = ap (λ (it : Peek). length it.messages) its-peek ∙ given-count k before s role at log log_at limit
@@ -375,28 +348,29 @@ module _ (k : Cluster) (before : Refines k) (s limit version : ℕ) (role : Shar
         let taken = (log-is k before s role at log log_at).within in
         omega (arith, pull-count, within, taken, before.room, before.legal.book)
 
-    module _ (core : Shard) (applied : HasApplied role.core peek core) (n : ℕ) (n_is : n ≡ length peek.messages) where
+    module _
+        (state : Shard) (applied : HasApplied role.state peek state) (n : ℕ) (n_is : n ≡ length peek.messages) where
       abbrev put : ShardRole
-      put = record role { core = core; applied = role.applied + n }
+      put = record role { state = state; applied = role.applied + n }
 
-      its-applied : HasApplied role.core (peek_of log.core s role.core.version limit) core
-      its-applied = subst (λ (it : Peek). HasApplied role.core it core) its-peek applied
+      its-applied : HasApplied role.state (peek_of log.state s role.state.version limit) state
+      its-applied = subst (λ (it : Peek). HasApplied role.state it state) its-peek applied
 
       n_given : n ≡ given k before s role at log log_at limit
       n_given = n_is ∙ pull-count
 
       refined : ShardRefines k.config k.book.items s put
-      refined = rw n_given (pulled k before s role at log log_at limit core its-applied)
+      refined = rw n_given (pulled k before s role at log log_at limit state its-applied)
 
       pub pull-goes_on : pulls (machine_of k) s limit ≡ Ok (record {
-        answer = answered.Version core.version;
+        answer = answered.Version state.version;
         next = record (machine_of k) {
           shards = slice_set (map progress_of k.shards.items) s
               (record (progress_of role) { applied = role.applied + n });
         };
       })
       pull-goes_on =
-          let version : core.version
+          let version : state.version
           ≡ last_version (take (role.applied + given k before s role at log log_at limit) k.book.items) =
           refined.version ∙ ap (λ (m : ℕ). last_version (take (role.applied + m) k.book.items)) n_given in
           rw (version, n_given) (pull-accepted k before s role at log log_at limit)

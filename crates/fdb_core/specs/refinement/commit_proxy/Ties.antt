@@ -11,12 +11,13 @@ use Rattle.fdb_txn.specs.book.Book.{seen_of, seen_before, last_version}
 use Rattle.fdb_txn.specs.Limits.{place_limit}
 use Rattle.fdb_resolver.specs.declared.part.Part.{Part}
 use Rattle.fdb_sequencer.specs.declared.ticket.Ticket.{Ticket}
-use Rattle.fdb_sequencer.specs.Moves.{Dated, dated}
+use Rattle.fdb_sequencer.specs.declared.dated.Dated.{Dated}
+use Rattle.fdb_sequencer.specs.Moves.{dated}
 use Rattle.fdb_sequencer.specs.Sequencer.{Sequencer, unlearnt_by}
 use Rattle.fdb_proxy.specs.declared.config.Config.{Config}
 use Rattle.fdb_proxy.specs.declared.outcome.Outcome.{Outcome}
 use Rattle.fdb_proxy.specs.declared.stage.Stage.{Stage as CoreStage}
-use Rattle.fdb_proxy.specs.declared.stage.Stage.TheVariants as core
+use Rattle.fdb_proxy.specs.declared.stage.Stage.TheVariants as stages
 use Rattle.fdb_proxy.specs.CommitProxies.{CommitProxy as Core, position_of, sealing, parts_in, HasLearntTicket}
 use Rattle.fdb_proxy.specs.CommitProxies.{HasFailed}
 use Rattle.fdb_proxy.specs.Deciding.{Said}
@@ -33,24 +34,24 @@ use Rattle.fdb_machine.specs.machine.CommitProxySteps.{with_batch}
 use Rattle.fdb_machine.specs.machine.Roles.{CommitProxy, Stage, Idle, Resolving, Logging, Reported}
 use Rattle.fdb_machine.specs.machine.Worlds.{idle_proxy}
 
--- How far the machine's commit proxy is, by the core's stage and whether the batch's version is reported. Between two
+-- How far the machine's commit proxy is, by the state's stage and whether the batch's version is reported. Between two
 -- steps no batch of a proxy that works is without an entry, and none has a ticket that it didn't learn. One that failed
 -- while it learnt a ticket is as it was before: the machine's book has no entry of that ticket.
 abbrev pub stage_of : Bool → CoreStage → Stage
-stage_of is_reported core.Idle = Idle
-stage_of is_reported core.Sealed = Idle
-stage_of is_reported core.Entered = Idle
-stage_of is_reported (core.Resolving batch) = Resolving
-stage_of is_reported (core.Logging decided) = if is_reported then Reported else Logging
+stage_of is_reported stages.Idle = Idle
+stage_of is_reported stages.Sealed = Idle
+stage_of is_reported stages.Entered = Idle
+stage_of is_reported (stages.Resolving batch) = Resolving
+stage_of is_reported (stages.Logging decided) = if is_reported then Reported else Logging
 
 -- for each resolver whether its verdicts came, while the batch waits for them
 abbrev pub received_at : CoreStage → List Bool
-received_at (core.Resolving batch) = map (λ (of : Option Said). is_some of) batch.verdicts
+received_at (stages.Resolving batch) = map (λ (of : Option Said). is_some of) batch.verdicts
 received_at other = []
 
 -- for each log whether its acknowledgement came, once the batch is decided
 abbrev pub acknowledged_at : CoreStage → List Bool
-acknowledged_at (core.Logging decided) = decided.acknowledged
+acknowledged_at (stages.Logging decided) = decided.acknowledged
 acknowledged_at other = []
 
 -- the machine's commit proxy
@@ -59,20 +60,20 @@ seen_as role =
     record {
       waiting = role.waiting;
       in_flight = role.in_flight;
-      stage = stage_of role.is_reported role.core.proxy.stage;
+      stage = stage_of role.is_reported role.state.proxy.stage;
       entry = role.entry;
-      verdicts_received = received_at role.core.proxy.stage;
-      acknowledgements_received = acknowledged_at role.core.proxy.stage;
+      verdicts_received = received_at role.state.proxy.stage;
+      acknowledgements_received = acknowledged_at role.state.proxy.stage;
     }
 
 -- How the world has the batch in flight, if there is one: as that of entry i, and once its version is reported it waits
 -- for no log.
 abbrev pub StageRefines : Bool → ℕ → CoreStage → Type 0
-StageRefines is_reported i core.Idle = is_reported ≡ false
-StageRefines is_reported i core.Sealed = ⊥
-StageRefines is_reported i core.Entered = ⊥
-StageRefines is_reported i (core.Resolving resolving) = (resolving.position.index ≡ i) × (is_reported ≡ false)
-StageRefines is_reported i (core.Logging decided) =
+StageRefines is_reported i stages.Idle = is_reported ≡ false
+StageRefines is_reported i stages.Sealed = ⊥
+StageRefines is_reported i stages.Entered = ⊥
+StageRefines is_reported i (stages.Resolving resolving) = (resolving.position.index ≡ i) × (is_reported ≡ false)
+StageRefines is_reported i (stages.Logging decided) =
     (decided.position.index ≡ i) × (is_reported ≡ true → first_unset 0 decided.acknowledged ≡ None)
 
 -- What the sequencer has for a commit proxy: the greatest version that was reported, and the moves that the proxy
@@ -89,19 +90,19 @@ known_to sequencer proxy =
 abbrev pub ReadsWithin : ℕ → Transcript → Type 0
 ReadsWithin committed transcript = transcript.read_version ≤ committed
 
--- The core has the first entries of the book, through that of its last ticket, and the sequencer has for it the moves
+-- The state has the first entries of the book, through that of its last ticket, and the sequencer has for it the moves
 -- of the others. What waits there and what is in flight is what is judged of the transcripts.
 pub record CommitProxyRefines (config : Config) (book : List Entry) (known : Known) (role : CommitProxyRole) : Type 0
   where
     pub front : List Entry
     pub behind : List Entry
     pub whole : front ++ behind ≡ book
-    pub core : IsCommitProxyAt config front role.core.proxy
+    pub state : IsCommitProxyAt config front role.state.proxy
     pub unlearnt : known.unlearnt ≡ dated_moves behind
-    pub waiting : role.core.proxy.waiting ≡ map commit_request_of role.waiting
-    pub in_flight : role.core.proxy.batch ≡ map commit_request_of role.in_flight
+    pub waiting : role.state.proxy.waiting ≡ map commit_request_of role.waiting
+    pub in_flight : role.state.proxy.batch ≡ map commit_request_of role.in_flight
     pub reads : AllByRecursion (ReadsWithin known.committed) role.waiting
-    pub stage : StageRefines role.is_reported role.entry role.core.proxy.stage
+    pub stage : StageRefines role.is_reported role.entry role.state.proxy.stage
 
 -- a commit proxy before its first batch
 pub record IsNewCommitProxy (config : Config) (role : CommitProxyRole) : Type 0 where
@@ -125,21 +126,21 @@ pub record Seals (config : Config) (book : List Entry) (known : Known) (ticket :
   pub machine : seen_as new ≡ with_batch (seen_as old) ticket.index (suc (length config.resolver_splits))
   pub refines : CommitProxyRefines config (book ++ entry_of ticket batch ∷ []) (record known { unlearnt = [] }) new
 
--- The core's first requests became the batch of the ticket's entry, which is given, with the part of each resolver.
+-- The state's first requests became the batch of the ticket's entry, which is given, with the part of each resolver.
 pub record HasBatch (old : Core) (ticket : Ticket) (batch : List Transaction) (parts : List Part) (new : Core) : Type 0
   where
     pub batch_is : batch ≡ take place_limit old.waiting
     pub learnt : HasLearntTicket (sealing old) ticket new
     pub parts_are : parts ≡ parts_in new.stage
 
--- The core is as before, or it failed while it learnt the ticket.
+-- The state is as before, or it failed while it learnt the ticket.
 abbrev pub HasNoBatch : Core → Ticket → Core → Type 0
 HasNoBatch old ticket new = (new ≡ old) ⊎ HasFailed (sealing old) ticket new
 
 -- What a seal leaves in which memory ran out.
 pub record IsLeftUnsealed (ticket : Ticket) (old new : CommitProxyRole) : Type 0 where
-  pub core : HasNoBatch old.core.proxy ticket new.core.proxy
-  pub rest : new ≡ record old { core = new.core }
+  pub state : HasNoBatch old.state.proxy ticket new.state.proxy
+  pub rest : new ≡ record old { state = new.state }
 
 -- The batch of the entry is decided by the rule.
 pub record Decides (config : Config) (book : List Entry) (known : Known) (entry : Entry) (old : CommitProxyRole)

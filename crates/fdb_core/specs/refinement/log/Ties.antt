@@ -23,32 +23,32 @@ logs_taken logs = map (λ (role : LogRole). role.taken) logs
 
 -- how far a shard is
 abbrev pub progress_of : ShardRole → ShardProgress
-progress_of role = record { applied = role.applied; floor = role.core.floor; popped = role.popped }
+progress_of role = record { applied = role.applied; floor = role.state.floor; popped = role.popped }
 
 module _ (config : Config) (book : List Entry) where
   -- a shard applied this many entries, and answers from the run of these
   pub record ShardRefines (i : ℕ) (role : ShardRole) : Type 0 where
-    pub tag : role.core.tag ≡ i
-    pub range : role.core.range ≡ piece config.shard_splits i
-    pub works : role.core.is_failed ≡ false
+    pub tag : role.state.tag ≡ i
+    pub range : role.state.range ≡ piece config.shard_splits i
+    pub works : role.state.is_failed ≡ false
     pub within : role.applied ≤ length book
-    pub version : role.core.version ≡ last_version (take role.applied book)
-    pub serving : role.core.floor ≤ role.core.version
-    pub popped : role.popped ≤ role.core.version
-    pub serves : (v : ℕ) (x : Point) → role.core.floor ≤ v → v ≤ role.core.version
+    pub version : role.state.version ≡ last_version (take role.applied book)
+    pub serving : role.state.floor ≤ role.state.version
+    pub popped : role.popped ≤ role.state.version
+    pub serves : (v : ℕ) (x : Point) → role.state.floor ≤ v → v ≤ role.state.version
         → in_range (piece config.shard_splits i) x ≡ true
-        → value_at role.core v x
+        → value_at role.state v x
         ≡ get (serial_map_at config.resolver_splits v (seen_of (take role.applied book)).places) x
 
 -- a log of the world took as many entries as it says
 abbrev pub LogRefines : Config → List Entry → ℕ → LogRole → Type 0
-LogRefines config book i role = IsLogAfter config book i role.core role.taken
+LogRefines config book i role = IsLogAfter config book i role.state role.taken
 
 -- a shard applied no more than its log took, and its log dropped what it was told to drop
 abbrev pub TagRefines : List LogRole → ℕ → ShardRole → Type 0
 TagRefines logs i shard =
     (log : LogRole) → slice_get logs (log_of (length logs) i) ≡ Some log
-    → (shard.applied ≤ log.taken) × (popped_through log.core i ≡ shard.popped)
+    → (shard.applied ≤ log.taken) × (popped_through log.state i ≡ shard.popped)
 
 -- the logs and the shards, of which there are as many as the configuration says
 pub record LogsRefine (config : Config) (book : List Entry) (logs : List LogRole) (shards : List ShardRole) : Type 0

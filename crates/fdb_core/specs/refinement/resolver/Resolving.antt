@@ -27,15 +27,15 @@ pub record HaveBeenSent (splits : List Point) (book : List Entry) (i : ℕ) (sen
 -- a resolver took this many entries, and sent what the rule says of each
 pub record ResolverRefines (splits : List Point) (book : List Entry) (i : ℕ) (role : ResolverRole) : Type 0 where
   pub within : role.taken ≤ length book
-  pub state : IsResolverAt splits (take role.taken book) i role.core
+  pub state : IsResolverAt splits (take role.taken book) i role.state
   pub count : length role.sent.items ≡ role.taken
   pub sent : HaveBeenSent splits book i role.sent.items
 
--- What a resolver leaves that lacked memory: it took and sent nothing more, and its core is as it was or has failed.
+-- What a resolver leaves that lacked memory: it took and sent nothing more, and its state is as it was or has failed.
 pub record IsLeftBy (old new : ResolverRole) : Type 0 where
   pub taken : new.taken ≡ old.taken
   pub sent : new.sent.items ≡ old.sent.items
-  pub core : (new.core ≡ old.core) ⊎ HasFailed old.core new.core
+  pub state : (new.state ≡ old.state) ⊎ HasFailed old.state new.state
 
 -- there is one more than splits
 pub record ResolversRefine (splits : List Point) (book : List Entry) (resolvers : List ResolverRole) : Type 0 where
@@ -53,7 +53,7 @@ pub record PartsRefine (splits : List Point) (book : List Entry) (parts : List (
 pub record TakesNext (splits : List Point) (before : List Entry) (entry : Entry) (i index : ℕ) (old : ResolverRole)
     (answer : List (ℕ × Verdict)) (new : ResolverRole) : Type 0 where
   pub rule : answer ≡ verdicts_on splits i (seen_of before) entry
-  pub state : IsResolverAt splits (before ++ entry ∷ []) i new.core
+  pub state : IsResolverAt splits (before ++ entry ∷ []) i new.state
   pub taken : new.taken ≡ old.taken + 1
   pub verdicts : Verdicts
   pub sent : new.sent.items ≡ old.sent.items ++ verdicts ∷ []

@@ -22,7 +22,7 @@ use Rattle.fdb_core.specs.refinement.shard.Reads.{ShardReads, has_failed_at, poi
 pub failed_by_one : (reads : ShardReads) (x y : Point)
     → first_owner reads.config.shard_splits x ≡ first_owner reads.config.shard_splits y
     → has_failed_at reads x ≡ has_failed_at reads y
-failed_by_one reads x y same = ap (is_set (map (λ (role : ShardRole). role.core.is_failed) reads.shards)) same
+failed_by_one reads x y same = ap (is_set (map (λ (role : ShardRole). role.state.is_failed) reads.shards)) same
 
 -- and it serves both or neither
 pub held_by_one : (reads : ShardReads) (x y : Point)

@@ -36,7 +36,7 @@ run_map reads = serial_map_at reads.config.resolver_splits reads.version (seen_o
 -- the shard that holds the point has failed
 abbrev pub has_failed_at : ShardReads → Point → Bool
 has_failed_at reads x =
-    is_set (map (λ (role : ShardRole). role.core.is_failed) reads.shards) (first_owner reads.config.shard_splits x)
+    is_set (map (λ (role : ShardRole). role.state.is_failed) reads.shards) (first_owner reads.config.shard_splits x)
 
 -- why a point is not served, as the machine says it
 abbrev pub point_fault : ShardReads → Point → Option Refusal
@@ -61,11 +61,11 @@ pairs_held reads i range is_reverse =
 
 -- A shard holds its piece of the keys, and answers from the run where it hasn't failed and serves the version.
 pub record IsReadable (reads : ShardReads) (i : ℕ) (role : ShardRole) : Type 0 where
-  pub range : role.core.range ≡ piece reads.config.shard_splits i
-  pub version : role.core.version ≡ last_version (take role.applied reads.book)
-  pub serves : role.core.is_failed ≡ false → (x : Point) → role.core.floor ≤ reads.version
-      → reads.version ≤ role.core.version
-      → in_range (piece reads.config.shard_splits i) x ≡ true → value_at role.core reads.version x
+  pub range : role.state.range ≡ piece reads.config.shard_splits i
+  pub version : role.state.version ≡ last_version (take role.applied reads.book)
+  pub serves : role.state.is_failed ≡ false → (x : Point) → role.state.floor ≤ reads.version
+      → reads.version ≤ role.state.version
+      → in_range (piece reads.config.shard_splits i) x ≡ true → value_at role.state reads.version x
       ≡ get (run_map reads) x
 
 -- there is a shard for each piece of the keys, and each is readable

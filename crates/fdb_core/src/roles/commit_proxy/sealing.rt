@@ -15,27 +15,27 @@ use fdb_txn::{Batch, PLACE_LIMIT};
 use std::alloc::{AllocError, Global};
 
 /// The first of those who wait, at most as many as a batch may have, become the batch of the ticket's entry at the
-/// core, and stay in the list. Answers the batch, the part of each resolver, and who waits on. Where that is refused,
-/// the list is as before, and the core is, too, or has failed while it learnt the ticket.
+/// state, and stay in the list. Answers the batch, the part of each resolver, and who waits on. Where that is refused,
+/// the list is as before, and the state is, too, or has failed while it learnt the ticket.
 pub(crate) fn seal_first(
     alloc: Global,
-    core: &mut CommitCore,
+    state: &mut CommitCore,
     waiting: &mut Vec<Transcript>,
     ticket: &Ticket,
 ) -> Result<(Batch, Items<Part>, Vec<Transcript>), Refusal>
-    requires { IsTicketFor (sealing core.old.proxy) ticket.now }
-    ensures core { IfOk result (λ given. HasBatch core.old.proxy ticket.now given.0 given.1 core.new.proxy) }
+    requires { IsTicketFor (sealing state.old.proxy) ticket.now }
+    ensures state { IfOk result (λ given. HasBatch state.old.proxy ticket.now given.0 given.1 state.new.proxy) }
     ensures rest { IfOk result (λ given. given.2.items ≡ drop place_limit waiting.old.items) }
     ensures first { OnOk result (waiting.new.items ≡ take place_limit waiting.old.items) }
-    ensures lacks { seal_fault core.old.proxy ≡ None → learn_fault (sealing core.old.proxy) ticket.now ≡ None
+    ensures lacks { seal_fault state.old.proxy ≡ None → learn_fault (sealing state.old.proxy) ticket.now ≡ None
         → IfErr result (λ why. why ≡ NoMemory) }
-    ensures left { learn_fault (sealing core.old.proxy) ticket.now ≡ None
-        → OnErr result (HasNoBatch core.old.proxy ticket.now core.new.proxy) }
+    ensures left { learn_fault (sealing state.old.proxy) ticket.now ≡ None
+        → OnErr result (HasNoBatch state.old.proxy ticket.now state.new.proxy) }
     ensures same { OnErr result (waiting.new.items ≡ waiting.old.items) }
 {
-    // The list is parted before the core changes: a batch whose ticket is learnt can't be given up.
+    // The list is parted before the state changes: a batch whose ticket is learnt can't be given up.
     let mut rest = cut(alloc, waiting)?;
-    match seal_core(core, ticket) {
+    match seal_core(state, ticket) {
         Ok((batch, parts)) => Ok((batch, parts, rest)),
         Err(why) => {
             put_back(waiting, &mut rest);
@@ -45,17 +45,17 @@ pub(crate) fn seal_first(
     }
 }
 
-// The core's first requests become the batch of the ticket's entry. Answers the batch, and the part of each resolver.
-fn seal_core(core: &mut CommitCore, ticket: &Ticket) -> Result<(Batch, Items<Part>), Refusal>
-    requires { IsTicketFor (sealing core.old.proxy) ticket.now }
-    ensures core { IfOk result (λ given. HasBatch core.old.proxy ticket.now given.0 given.1 core.new.proxy) }
-    ensures lacks { seal_fault core.old.proxy ≡ None → learn_fault (sealing core.old.proxy) ticket.now ≡ None
+// The state's first requests become the batch of the ticket's entry. Answers the batch, and the part of each resolver.
+fn seal_core(state: &mut CommitCore, ticket: &Ticket) -> Result<(Batch, Items<Part>), Refusal>
+    requires { IsTicketFor (sealing state.old.proxy) ticket.now }
+    ensures state { IfOk result (λ given. HasBatch state.old.proxy ticket.now given.0 given.1 state.new.proxy) }
+    ensures lacks { seal_fault state.old.proxy ≡ None → learn_fault (sealing state.old.proxy) ticket.now ≡ None
         → IfErr result (λ why. why ≡ NoMemory) }
-    ensures left { learn_fault (sealing core.old.proxy) ticket.now ≡ None
-        → OnErr result (HasNoBatch core.old.proxy ticket.now core.new.proxy) }
+    ensures left { learn_fault (sealing state.old.proxy) ticket.now ≡ None
+        → OnErr result (HasNoBatch state.old.proxy ticket.now state.new.proxy) }
 {
-    let batch = core.seal()?;
-    let parts = core.learn_with_parts(ticket)?;
+    let batch = state.seal()?;
+    let parts = state.learn_with_parts(ticket)?;
     Ok((batch, parts))
 }
 

@@ -11,17 +11,17 @@ use fdb_keys::Refusal;
 use fdb_proxy::CommitCore;
 
 /// The session's open transaction is finished. One that wrote nothing is handed out, and the session has none any more.
-/// Any other one waits at the core, which has room for it, and so does its session.
+/// Any other one waits at the state, which has room for it, and so does its session.
 pub(crate) fn take_in(
-    core: &mut CommitCore,
+    state: &mut CommitCore,
     waiting: &mut Vec<Transcript>,
     sessions: &mut Sessions,
     session: u32,
 ) -> Result<Option<Transcript>, Refusal>
-    requires room { 1 ≤ core.old.spare }
+    requires room { 1 ≤ state.old.spare }
     requires taken { IfSome (open_at sessions.old session)
-        (λ transcript. submit_fault core.old.proxy (commit_request_of transcript) ≡ None) }
-    ensures { Submits session sessions.old core.old.proxy waiting.old.items result sessions.new core.new.proxy
+        (λ transcript. submit_fault state.old.proxy (commit_request_of transcript) ≡ None) }
+    ensures { Submits session sessions.old state.old.proxy waiting.old.items result sessions.new state.new.proxy
         waiting.new.items }
 {
     // Room comes first: once the transaction is finished, it can't be left open.
@@ -30,7 +30,7 @@ pub(crate) fn take_in(
         Finished::ReadOnly(transcript) => Ok(Some(transcript)),
         Finished::ToCommit(sealed, transcript) => {
             sessions.wait(session)?;
-            match core.submit(sealed) {
+            match state.submit(sealed) {
                 Ok(()) => {
                     waiting.push_reserved(transcript);
                     Ok(None)

@@ -4,7 +4,7 @@ use Rattle.std.specs.Cmp.Lexicographic.{slice_cmp}
 use Rattle.std.specs.Map.{keys_of, lookup}
 use Rattle.std.specs.Ordering.{nat_cmp}
 use Rattle.fdb_interval.specs.Breakpoints.{Breaks, value_from, last_value, breaks_before, breaks_inside, AreJoined}
-use Rattle.fdb_interval.specs.Breakpoints.{without}
+use Rattle.fdb_keys.specs.RangeMaps.{without_points}
 use Rattle.fdb_interval.proofs.AssignLemmas.{assigned, assigned-by-steps, taken_if, version-assigned, joined-assigned}
 use Rattle.fdb_interval.proofs.AssignLemmas.{last-assigned}
 use Rattle.fdb_interval.proofs.PartsLemmas.{put}
@@ -27,7 +27,7 @@ made c =
     let is_laid : c.put_both.new.breaks.entries ≡ put range.begin version
     (if is_some (lookup (is_at (slice_cmp nat_cmp range.end)) old) then old else put range.end behind old) =
     search rules in
-    let is_left : c.remove_all.new.breaks.entries ≡ without c.as_slice.result.now c.put_both.new.breaks.entries =
+    let is_left : c.remove_all.new.breaks.entries ≡ without_points c.as_slice.result.now c.put_both.new.breaks.entries =
     search rules in
     let is_first : c.remove_if.new.breaks.entries
     ≡ taken_if (before == version) range.begin c.remove_all.new.breaks.entries = search rules in

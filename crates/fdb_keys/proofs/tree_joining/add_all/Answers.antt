@@ -1,7 +1,7 @@
 use Rattle.std.proofs.Common.{◌≡◌, ◌∙◌, ap, true}
 use Rattle.std.specs.BTreeMap.{values}
 use Rattle.fdb_keys.specs.Insertion.{with_ranges}
-use Rattle.fdb_keys.specs.RangeMaps.{AreUnderBegins, without}
+use Rattle.fdb_keys.specs.RangeMaps.{AreUnderBegins, without_points}
 use Rattle.fdb_keys.specs.Ranges.{is_apart}
 use Rattle.fdb_keys.proofs.JoiningLemmas.{all_added}
 use Rattle.fdb_keys.proofs.tree_joining.add_all.Goals as goal
@@ -18,7 +18,7 @@ made c =
     all_added c.args.added.now joined others entries c.remove_all.new.ranges.entries c.join_all.ensures.apart
     c.requires.keyed c.requires.apart c.in_ok-joined.ensures.answers
     (c.as_slice.ensures.value ∙ c.in_ok-others.ensures)
-    (c.remove_all.ensures ∙ ap (without others) c.in_ok-put_all.ensures.ok)
+    (c.remove_all.ensures ∙ ap (without_points others) c.in_ok-put_all.ensures.ok)
 
 pub returns-clause-answers : goal.returns-clause-answers
 returns-clause-answers c = (made c).0

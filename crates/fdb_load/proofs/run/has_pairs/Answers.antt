@@ -2,7 +2,7 @@ use Rattle.std.proofs.Common.{◌≡◌, ◌∙◌, sym, ap, false}
 use Rattle.fdb_keys.specs.Ranges.{Range}
 use Rattle.fdb_mutations.specs.Pairs.{pairs_in}
 use Rattle.fdb_load.specs.Runs.{every_key}
-use Rattle.fdb_load.proofs.PairsLemmas.{pairs-decide}
+use Rattle.fdb_mutations.proofs.Exports.{pairs-decide}
 use Rattle.fdb_load.proofs.run.has_pairs.Goals as goal
 
 pub returns : goal.returns

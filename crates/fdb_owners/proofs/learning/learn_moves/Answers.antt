@@ -8,7 +8,7 @@ use Rattle.fdb_owners.proofs.learning.learn_moves.Goals as goal
 pub returns-clause-owners : goal.returns-clause-owners
 returns-clause-owners c = λ x v.
     let split = c.split_all.new.pieces in
-    let others : Pieces = record { front = split.front; breaks = c.put_all.new.breaks } in
+    let others : Pieces = record { lowest = split.lowest; breaks = c.put_all.new.breaks } in
     let moves = c.args.moves.now in
     let fresh : c.in_ok-fresh.fresh ≡ fresh_of c.args.version moves split.breaks.entries = search rules in
     owners-learnt c.args.version moves c.args.pieces.now split others c.split_all.ensures.split c.put_all.ensures.rising
@@ -17,7 +17,7 @@ returns-clause-owners c = λ x v.
 pub returns-clause-pieces : goal.returns-clause-pieces
 returns-clause-pieces c = λ resolvers last are later within.
     let split = c.split_all.new.pieces in
-    let others : Pieces = record { front = split.front; breaks = c.put_all.new.breaks } in
+    let others : Pieces = record { lowest = split.lowest; breaks = c.put_all.new.breaks } in
     let moves = c.args.moves.now in
     let fresh : c.in_ok-fresh.fresh ≡ fresh_of c.args.version moves split.breaks.entries = search rules in
     pieces-learnt resolvers last c.args.version moves split others c.put_all.ensures.rising later within refl

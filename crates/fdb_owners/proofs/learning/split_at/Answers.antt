@@ -11,7 +11,7 @@ returns-clause-split c =
     let begin : c.in_ok-begin.begin ≡ point = search rules in
     let history : c.in_ok-history.history ≡ history_at pieces point = search rules in
     let bound : is_bound point ≡ true = search rules in
-    split-answers c.put_break.result pieces record { front = pieces.front; breaks = c.put_break.new.breaks } point
+    split-answers c.put_break.result pieces record { lowest = pieces.lowest; breaks = c.put_break.new.breaks } point
     c.in_ok-begin.begin c.in_ok-history.history bound begin history refl c.put_break.ensures.rising
     c.put_break.ensures.ok c.put_break.ensures.err
 

@@ -1,14 +1,16 @@
 use Rattle.std.proofs.Common.{◌∙◌, sym, ap, subst, List, ◌++◌}
+use Rattle.fdb_keys.proofs.Exports.{ordered-back}
 use Rattle.fdb_owners.specs.declared.history.Change.{Change}
 use Rattle.fdb_owners.specs.Histories.{AreFalling, AreUpTo}
 use Rattle.fdb_owners.specs.Parts.{changes_within}
 use Rattle.fdb_owners.proofs.ChangesLemmas.{within-parted}
-use Rattle.fdb_owners.proofs.HistoryLemmas.{falling-back}
+use Rattle.fdb_owners.proofs.HistoryLemmas.{comes_before}
 use Rattle.fdb_owners.proofs.parts.changes_within.Goals as goal
 
 pub split_by-requires-2 : goal.split_by-requires-2
 split_by-requires-2 c =
-    falling-back c.split_by.result.0.now c.split_by.result.1.now (subst AreFalling c.split_by.ensures.parts c.requires)
+    ordered-back comes_before c.split_by.result.0.now c.split_by.result.1.now
+    (subst AreFalling c.split_by.ensures.parts c.requires)
 
 pub returns : goal.returns
 returns c =

@@ -3,8 +3,7 @@ use Rattle.std.specs.List.{AllByRecursion}
 use Rattle.std.proofs.lemmas.List.{take_more, take_all, length-take-le}
 use Rattle.fdb_keys.specs.Points.{Point}
 use Rattle.fdb_keys.specs.Texts.{is_bound}
-use Rattle.fdb_keys.proofs.Exports.{is_bound-key}
-use Rattle.fdb_txn.proofs.Exports.{all-append}
+use Rattle.fdb_keys.proofs.Exports.{all-append, is_bound-key}
 use Rattle.fdb_interval.proofs.Exports.{rising_from_sorted, put}
 use Rattle.fdb_owners.specs.declared.history.History.{History}
 use Rattle.fdb_owners.specs.Histories.{owner_in, IsHistory}
@@ -48,7 +47,7 @@ returns-clause-pieces c last =
     let splits = c.args.splits.now in
     let every : take c.loop-place.place splits ≡ splits = take_all c.loop-place.place splits (omega arith) in
     record {
-      front =
+      lowest =
           subst (IsHistory (suc (length splits)) last) (sym c.new.ensures)
           (record { first = omega arith; changes = tt; falling = tt });
       breaks =

@@ -24,7 +24,7 @@ cut-requires c =
 
 pub returns-then-is_same_from-clause-agree : goal.returns-then-is_same_from-clause-agree
 returns-then-is_same_from-clause-agree c x v from =
-    let front = c.args.pieces.now.front in
+    let front = c.args.pieces.now.lowest in
     ap (λ (es : Breaks History). owner_in (value_from front es x) v) c.remove.ensures.entries
     ∙ taken-agrees c.args.floor front c.args.point.now c.args.pieces.now.breaks.entries
     c.history_before-before.ensures.rising
@@ -37,7 +37,7 @@ returns-then-is_same_from-clause-agree c x v from =
 pub returns-then-is_same_from-clause-kept : goal.returns-then-is_same_from-clause-kept
 returns-then-is_same_from-clause-kept c resolvers last kept =
     record {
-      front = kept.front;
+      lowest = kept.lowest;
       breaks =
           subst (AllByRecursion (IsPiece resolvers last)) (sym c.remove.ensures.entries)
           (taken-kept resolvers last c.args.point.now c.args.pieces.now.breaks.entries kept.breaks);
@@ -45,7 +45,7 @@ returns-then-is_same_from-clause-kept c resolvers last kept =
 
 pub returns-in-Some-clause-agree : goal.returns-in-Some-clause-agree
 returns-in-Some-clause-agree c x v from =
-    let front = c.args.pieces.now.front in
+    let front = c.args.pieces.now.lowest in
     ap (λ (es : Breaks History). owner_in (value_from front es x) v) (c.get_mut.follows.holds c.cut.new.self).0
     ∙ set-agrees c.args.floor c.args.point.now c.in-Some.history.now c.cut.new.self c.cut.ensures.kept
     c.args.pieces.now.breaks.entries (sym c.in-Some.ensures.value) front x v from
@@ -53,7 +53,7 @@ returns-in-Some-clause-agree c x v from =
 pub returns-in-Some-clause-kept : goal.returns-in-Some-clause-kept
 returns-in-Some-clause-kept c resolvers last kept =
     record {
-      front = kept.front;
+      lowest = kept.lowest;
       breaks =
           subst (AllByRecursion (IsPiece resolvers last)) (sym (c.get_mut.follows.holds c.cut.new.self).0)
           (set-kept resolvers last c.args.point.now c.in-Some.history.now c.cut.new.self

@@ -11,7 +11,7 @@ returns-then-len-clause-begins g c =
     omega (arith, c.if-len.true, c.len.ensures, c.len-2.ensures) in
     where-given c.share.result c.args.theirs.now
     (λ (front : List Entry). IsPrefix c.args.own.now front × IsPrefix c.args.theirs.now front)
-    c.share.ensures (c.agree.ensures.shorter fewer, begins-itself c.args.theirs.now)
+    c.share.ensures (c.know_one_book.ensures.shorter fewer, begins-itself c.args.theirs.now)
 
 pub returns-then-len-clause-reaches : goal.returns-then-len-clause-reaches
 returns-then-len-clause-reaches g c =
@@ -21,7 +21,8 @@ returns-then-len-clause-reaches g c =
     where-given c.share.result c.args.theirs.now
     (λ (front : List Entry). (last_version c.args.own.now ≤ last_version front)
     × (last_version c.args.theirs.now ≤ last_version front)) c.share.ensures (
-      reaches resolvers c.args.own.now c.args.theirs.now c.front-2.ensures.entries (c.agree.ensures.shorter fewer),
+      reaches resolvers c.args.own.now c.args.theirs.now c.know_entries-2.ensures
+          (c.know_one_book.ensures.shorter fewer),
       omega arith,
     )
 
@@ -31,7 +32,7 @@ returns-else-len-clause-begins g c =
     omega (arith, c.if-len.false, c.len.ensures, c.len-2.ensures) in
     where-given c.share-else-len.result c.args.own.now
     (λ (front : List Entry). IsPrefix c.args.own.now front × IsPrefix c.args.theirs.now front)
-    c.share-else-len.ensures (begins-itself c.args.own.now, c.agree.ensures.longer more)
+    c.share-else-len.ensures (begins-itself c.args.own.now, c.know_one_book.ensures.longer more)
 
 pub returns-else-len-clause-reaches : goal.returns-else-len-clause-reaches
 returns-else-len-clause-reaches g c =
@@ -42,5 +43,5 @@ returns-else-len-clause-reaches g c =
     (λ (front : List Entry). (last_version c.args.own.now ≤ last_version front)
     × (last_version c.args.theirs.now ≤ last_version front)) c.share-else-len.ensures (
       omega arith,
-      reaches resolvers c.args.theirs.now c.args.own.now c.front.ensures.entries (c.agree.ensures.longer more),
+      reaches resolvers c.args.theirs.now c.args.own.now c.know_entries.ensures (c.know_one_book.ensures.longer more),
     )

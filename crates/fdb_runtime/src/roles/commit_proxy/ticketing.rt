@@ -4,22 +4,22 @@ ghost use Rattle.std.specs.Bool.{Decides};
 ghost use Rattle.std.specs.Option.{option_copied};
 ghost use Rattle.std.specs.Cmp.Lexicographic.{pointwise};
 ghost use Rattle.fdb_sequencer.specs.Equality.{dated_eq};
-ghost use Rattle.fdb_sequencer.specs.Moves.{Dated, dated};
+ghost use Rattle.fdb_sequencer.specs.declared.dated.Dated.{Dated};
+ghost use Rattle.fdb_sequencer.specs.Moves.{dated};
 ghost use Rattle.fdb_roles.specs.Entries.{dated_moves};
 ghost use Rattle.fdb_runtime.specs.Ticketing.{is_of_entry, IsTicketOf, are_left};
 
+use crate::known_front::KnownFront;
 use crate::name::ClusterName;
-use crate::sealed_front::SealedFront;
-use fdb_keys::Items;
-use fdb_sequencer::Ticket;
-use fdb_txn::{Entry, Move, Sealed};
+use fdb_sequencer::{Dated, Ticket};
+use fdb_txn::{Entry, Sealed};
 
 /// Whether the ticket is that of the last entry of the front, which has the batch, and tells the moves of the entries
 /// behind the own front. It takes no memory, and O(n) time for n ranges and mutations of the batch, moves of the
 /// ticket, and entries behind the own front.
 pub(crate) fn is_ticket_of<B: ClusterName>(
-    own: &SealedFront<B>,
-    front: &SealedFront<B>,
+    own: &KnownFront<B>,
+    front: &KnownFront<B>,
     batch: &[Sealed],
     ticket: &Ticket,
 ) -> bool
@@ -48,11 +48,7 @@ fn is_of_entry(ticket: &Ticket, number: usize, entry: &Entry, batch: &[Sealed]) 
 }
 
 // Whether these are the moves of the front's entries from the number on.
-fn are_moves_from<B: ClusterName>(
-    front: &SealedFront<B>,
-    begin: usize,
-    moves: &[(u64, Items<Move>)],
-) -> bool
+fn are_moves_from<B: ClusterName>(front: &KnownFront<B>, begin: usize, moves: &[Dated]) -> bool
     ensures { result ≡ pointwise dated_eq moves.now (dated_moves (drop begin front.now)) }
 {
     let mut rest = moves;
@@ -69,10 +65,7 @@ fn are_moves_from<B: ClusterName>(
 }
 
 // What is left of the moves behind those of the entry, if they begin with them.
-fn left_after<'a>(
-    entry: &Entry,
-    moves: &'a [(u64, Items<Move>)],
-) -> Option<&'a [(u64, Items<Move>)]>
+fn left_after<'a>(entry: &Entry, moves: &'a [Dated]) -> Option<&'a [Dated]>
     ensures { (more : List Dated)
         → pointwise dated_eq moves.now (dated entry.now.version entry.now.moves ++ more)
         ≡ are_left (option_copied result) more }
@@ -81,7 +74,9 @@ fn left_after<'a>(
         return Some(moves);
     }
     match moves {
-        [first, rest @ ..] if first.0 == entry.version && first.1 == entry.moves => Some(rest),
+        [first, rest @ ..] if first.version == entry.version && first.moves == entry.moves => Some(
+            rest,
+        ),
         _ => None,
     }
 }

@@ -6,10 +6,10 @@ ghost use Rattle.fdb_txn.specs.book.Book.{last_version};
 ghost use Rattle.fdb_runtime.specs.LentShards.{lent_shards, lending_fault, next_fault, row_begin, row_fault};
 ghost use Rattle.fdb_runtime.specs.ShardViews.{run_of};
 
+use crate::known_front::KnownFront;
 use crate::name::ClusterName;
 use crate::roles::shard::ShardAt;
 use crate::roles::shard::reader::Reader;
-use crate::sealed_front::SealedFront;
 use bytes::Bytes;
 use fdb_client::{Page, Snapshot};
 use fdb_keys::{Items, Key, KeyRange, Refusal, is_before};
@@ -31,14 +31,14 @@ fn check_next<B: ClusterName>(at: &ShardAt<B>, version: u64, from: &[u8]) -> Res
 // Refused where the shards don't hold what comes from the one point on up to the other one, each from where the one
 // before it ends, and where one of them doesn't serve the version.
 fn check_row<B: ClusterName>(
-    kept: &[&ShardAt<B>],
+    shards: &[&ShardAt<B>],
     version: u64,
     from: &[u8],
     until: &[u8],
 ) -> Result<(), Refusal>
-    ensures { AnswersExactly result (row_fault version until.now from.now (lent_shards kept.now)) (λ _. ⊤) }
+    ensures { AnswersExactly result (row_fault version until.now from.now (lent_shards shards.now)) (λ _. ⊤) }
 {
-    match kept {
+    match shards {
         [] if is_before(from, until) => Err(Refusal::KeyOutsideLegalRange),
         [] => Ok(()),
         [first, others @ ..] => {
@@ -50,10 +50,10 @@ fn check_row<B: ClusterName>(
 }
 
 // Where the first of the shards begins, if it holds the begin of the range, and else that.
-fn row_begin<'a, B: ClusterName>(kept: &'a [&'a ShardAt<B>], range: &'a KeyRange) -> &'a [u8]
-    ensures { result.now ≡ row_begin range.now (lent_shards kept.now) }
+fn row_begin<'a, B: ClusterName>(shards: &'a [&'a ShardAt<B>], range: &'a KeyRange) -> &'a [u8]
+    ensures { result.now ≡ row_begin range.now (lent_shards shards.now) }
 {
-    match kept {
+    match shards {
         [first, ..] => {
             let at: &ShardAt<B> = *first;
             let own = at.range();
@@ -73,7 +73,7 @@ fn row_begin<'a, B: ClusterName>(kept: &'a [&'a ShardAt<B>], range: &'a KeyRange
 pub(crate) struct LentShards<'a, B: ClusterName> {
     reader: Reader<'a, B>,
     range: &'a KeyRange,
-    kept: &'a [&'a ShardAt<B>],
+    shards: &'a [&'a ShardAt<B>],
 }
 
 impl<'a, B: ClusterName> Model for LentShards<'a, B> {
@@ -87,8 +87,8 @@ impl<'a, B: ClusterName> Model for LentShards<'a, B> {
       range = it.range.now;
     } };
 
-    ghost invariant = { λ it. AreInARow it.reader.version (lent_shards it.kept.now)
-        × HoldAll it.range.now (lent_shards it.kept.now) };
+    ghost invariant = { λ it. AreInARow it.reader.version (lent_shards it.shards.now)
+        × HoldAll it.range.now (lent_shards it.shards.now) };
 }
 
 impl<'a, B: ClusterName> LentShards<'a, B> {
@@ -100,23 +100,28 @@ impl<'a, B: ClusterName> LentShards<'a, B> {
     pub(crate) fn new(
         reader: Reader<'a, B>,
         range: &'a KeyRange,
-        kept: &'a [&'a ShardAt<B>],
+        shards: &'a [&'a ShardAt<B>],
     ) -> Result<Self, Refusal>
-        ensures answers { AnswersExactly result (lending_fault reader.entry.version range.now (lent_shards kept.now))
+        ensures answers { AnswersExactly result (lending_fault reader.entry.version range.now (lent_shards shards.now))
             (λ _. ⊤) }
         ensures value { IfOk result (λ it. it
             ≡ record { version = reader.entry.version; front = reader.entry.front.now; range = range.now }) }
     {
-        check_row(kept, reader.version(), row_begin(kept, range), range.end())?;
+        check_row(
+            shards,
+            reader.version(),
+            row_begin(shards, range),
+            range.end(),
+        )?;
         Ok(LentShards {
             reader,
             range,
-            kept,
+            shards,
         })
     }
 
     /// The reader's front. It takes no memory, and O(1) time.
-    pub(crate) fn front(&self) -> &SealedFront<B>
+    pub(crate) fn front(&self) -> &KnownFront<B>
         ensures value { result.now ≡ self.now.front }
         ensures reached { self.now.version ≤ last_version self.now.front }
     {
@@ -136,7 +141,7 @@ impl<'a, B: ClusterName> LentShards<'a, B> {
         ensures { Answers result None (λ pairs. pairs
             ≡ pairs_in (run_of B.config self.now.version self.now.front) self.now.range false) }
     {
-        let pairs = self.reader.first_pairs(self.kept, self.range, 0, false)?;
+        let pairs = self.reader.first_pairs(self.shards, self.range, 0, false)?;
         Ok(Items::from_vec(pairs))
     }
 }
@@ -164,7 +169,7 @@ impl<'a, B: ClusterName> Snapshot for LentShards<'a, B> {
         if !self.range.contains(key) {
             return Err(Refusal::KeyOutsideLegalRange);
         }
-        self.reader.get_of(self.kept, key)
+        self.reader.get_of(self.shards, key)
     }
 
     fn page(&self, range: &KeyRange, limit: u32, reverse: bool) -> Result<Page, Refusal> {
@@ -173,7 +178,7 @@ impl<'a, B: ClusterName> Snapshot for LentShards<'a, B> {
         }
         let found = self
             .reader
-            .first_pairs(self.kept, range, one_more(limit), reverse)?;
+            .first_pairs(self.shards, range, one_more(limit), reverse)?;
         let (pairs, more) = page_of(Items::from_vec(found), limit);
         Ok(Page { pairs, more })
     }

@@ -9,10 +9,10 @@ ghost use Rattle.fdb_roles.specs.Wanted.{left_of, AreFew};
 ghost use Rattle.fdb_runtime.specs.LentShards.{lent_shards, is_held, pairs_at, pairs_held, AreInARow};
 ghost use Rattle.fdb_runtime.specs.ShardViews.{run_of};
 
+use crate::known_front::KnownFront;
 use crate::name::ClusterName;
 use crate::roles::shard::ShardAt;
 use crate::roles::shard::view::ShardView;
-use crate::sealed_front::SealedFront;
 use bytes::Bytes;
 use fdb_client::{Page, Snapshot};
 use fdb_keys::{Key, KeyRange, Refusal};
@@ -38,13 +38,13 @@ fn left_of(wanted: u32, count: usize) -> Option<u32>
 pub(crate) struct Reader<'a, B: ClusterName> {
     alloc: Global,
     version: u64,
-    front: &'a SealedFront<B>,
+    front: &'a KnownFront<B>,
     ghost reached: { version ≤ last_version front.now },
 }
 
 impl<'a, B: ClusterName> Reader<'a, B> {
     /// It takes no memory, and O(1) time.
-    pub(crate) fn new(alloc: Global, version: u64, front: &'a SealedFront<B>) -> Self
+    pub(crate) fn new(alloc: Global, version: u64, front: &'a KnownFront<B>) -> Self
         requires { version ≤ last_version front.now }
         ensures version { result.version ≡ version }
         ensures front { result.front.now ≡ front.now }
@@ -64,7 +64,7 @@ impl<'a, B: ClusterName> Reader<'a, B> {
     }
 
     /// The reader's front. It takes no memory, and O(1) time.
-    pub(crate) fn front(&self) -> &SealedFront<B>
+    pub(crate) fn front(&self) -> &KnownFront<B>
         ensures value { result.now ≡ self.now.front.now }
         ensures reached { self.now.version ≤ last_version self.now.front.now }
     {
@@ -73,13 +73,13 @@ impl<'a, B: ClusterName> Reader<'a, B> {
 
     /// The value of a key that one of the shards holds. They serve the version, one after another. Refused only as
     /// `NoMemory`. It takes O(s) time for s shards, and one `Shard::get`.
-    pub(crate) fn get_of(&self, kept: &[&ShardAt<B>], key: &Key) -> Result<Option<Bytes>, Refusal>
-        requires row { AreInARow self.now.version (lent_shards kept.now) }
-        requires held { IsTrue (is_held (lent_shards kept.now) key.now) }
+    pub(crate) fn get_of(&self, shards: &[&ShardAt<B>], key: &Key) -> Result<Option<Bytes>, Refusal>
+        requires row { AreInARow self.now.version (lent_shards shards.now) }
+        requires held { IsTrue (is_held (lent_shards shards.now) key.now) }
         ensures { Answers result None
             (λ value. value ≡ get (run_of B.config self.now.version self.now.front.now) key.now) }
     {
-        match kept {
+        match shards {
             [] => Ok(None),
             [first, others @ ..] => {
                 let at: &ShardAt<B> = *first;
@@ -99,18 +99,18 @@ impl<'a, B: ClusterName> Reader<'a, B> {
     /// `Shard::page` of what is given for each that is asked.
     pub(crate) fn first_pairs(
         &self,
-        kept: &[&ShardAt<B>],
+        shards: &[&ShardAt<B>],
         range: &KeyRange,
         wanted: u32,
         reverse: bool,
     ) -> Result<Vec<(Key, Bytes)>, Refusal>
-        requires { AreInARow self.now.version (lent_shards kept.now) }
+        requires { AreInARow self.now.version (lent_shards shards.now) }
         ensures { Answers result None (λ pairs. pairs.items ≡ first_of wanted
             (pairs_held (run_of B.config self.now.version self.now.front.now) range.now reverse
-            (lent_shards kept.now))) }
+            (lent_shards shards.now))) }
     {
         let mut pairs = Vec::new(self.alloc);
-        self.add_pairs(&mut pairs, kept, range, wanted, reverse)?;
+        self.add_pairs(&mut pairs, shards, range, wanted, reverse)?;
         Ok(pairs)
     }
 
@@ -119,18 +119,18 @@ impl<'a, B: ClusterName> Reader<'a, B> {
     fn add_pairs(
         &self,
         pairs: &mut Vec<(Key, Bytes)>,
-        kept: &[&ShardAt<B>],
+        shards: &[&ShardAt<B>],
         range: &KeyRange,
         wanted: u32,
         reverse: bool,
     ) -> Result<(), Refusal>
         requires few { AreFew wanted pairs.old.items }
-        requires row { AreInARow self.now.version (lent_shards kept.now) }
+        requires row { AreInARow self.now.version (lent_shards shards.now) }
         ensures { Answers result None (λ _. pairs.new.items ≡ first_of wanted (pairs.old.items
             ++ pairs_held (run_of B.config self.now.version self.now.front.now) range.now reverse
-            (lent_shards kept.now))) }
+            (lent_shards shards.now))) }
     {
-        let [first, others @ ..] = kept else {
+        let [first, others @ ..] = shards else {
             return Ok(());
         };
         let at: &ShardAt<B> = *first;
@@ -146,18 +146,18 @@ impl<'a, B: ClusterName> Reader<'a, B> {
     fn add_pairs_of(
         &self,
         pairs: &mut Vec<(Key, Bytes)>,
-        kept: &ShardAt<B>,
+        at: &ShardAt<B>,
         range: &KeyRange,
         wanted: u32,
         reverse: bool,
     ) -> Result<(), Refusal>
         requires few { AreFew wanted pairs.old.items }
-        requires served { read_fault kept.now.shard true self.now.version ≡ None }
+        requires served { read_fault at.now.shard true self.now.version ≡ None }
         ensures { Answers result None (λ _. pairs.new.items ≡ first_of wanted (pairs.old.items
-            ++ pairs_at (run_of B.config self.now.version self.now.front.now) range.now reverse kept.now)) }
+            ++ pairs_at (run_of B.config self.now.version self.now.front.now) range.now reverse at.now)) }
     {
         if let Some(limit) = left_of(wanted, pairs.len()) {
-            pairs.append(&mut self.pairs_of(kept, range, limit, reverse)?)?;
+            pairs.append(&mut self.pairs_of(at, range, limit, reverse)?)?;
         }
         Ok(())
     }
@@ -165,18 +165,18 @@ impl<'a, B: ClusterName> Reader<'a, B> {
     // The first pairs that the shard has of the range, so many at most unless that is 0.
     fn pairs_of(
         &self,
-        kept: &ShardAt<B>,
+        at: &ShardAt<B>,
         range: &KeyRange,
         limit: u32,
         reverse: bool,
     ) -> Result<Vec<(Key, Bytes)>, Refusal>
-        requires { read_fault kept.now.shard true self.now.version ≡ None }
+        requires { read_fault at.now.shard true self.now.version ≡ None }
         ensures { Answers result None (λ pairs. pairs.items ≡ first_of limit
-            (pairs_at (run_of B.config self.now.version self.now.front.now) range.now reverse kept.now)) }
+            (pairs_at (run_of B.config self.now.version self.now.front.now) range.now reverse at.now)) }
     {
-        match range.clip(kept.range())? {
+        match range.clip(at.range())? {
             Some(part) => {
-                let view = ShardView::new(self.version, self.front, kept);
+                let view = ShardView::new(self.version, self.front, at);
                 view.first_pairs(&part, limit, reverse)
             }
             None => Ok(Vec::new(self.alloc)),

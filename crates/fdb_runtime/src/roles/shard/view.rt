@@ -5,9 +5,9 @@ ghost use Rattle.fdb_mutations.specs.Pairs.{pairs_in, first_of};
 ghost use Rattle.fdb_txn.specs.book.Book.{last_version};
 ghost use Rattle.fdb_runtime.specs.ShardViews.{range_fault, run_map};
 
+use crate::known_front::KnownFront;
 use crate::name::ClusterName;
 use crate::roles::shard::ShardAt;
-use crate::sealed_front::SealedFront;
 use bytes::Bytes;
 use fdb_client::{Page, Snapshot};
 use fdb_keys::{Key, KeyRange, Refusal};
@@ -17,8 +17,8 @@ use std::marker::Model;
 #[derive(Drop)]
 pub(crate) struct ShardView<'a, B: ClusterName> {
     version: u64,
-    front: &'a SealedFront<B>,
-    kept: &'a ShardAt<B>,
+    front: &'a KnownFront<B>,
+    at: &'a ShardAt<B>,
 }
 
 impl<'a, B: ClusterName> Model for ShardView<'a, B> {
@@ -26,25 +26,21 @@ impl<'a, B: ClusterName> Model for ShardView<'a, B> {
 
     ghost Value = { View };
 
-    ghost view = { λ it. record { version = it.version; front = it.front.now; kept = it.kept.now } };
+    ghost view = { λ it. record { version = it.version; front = it.front.now; at = it.at.now } };
 
-    ghost invariant = { λ it. HasTheRunOf B.config it.version it.kept.now.front it.front.now };
+    ghost invariant = { λ it. HasTheRunOf B.config it.version it.at.now.front it.front.now };
 }
 
 impl<'a, B: ClusterName> ShardView<'a, B> {
     /// The shard read at a version that the reader's front reaches. It takes no memory.
-    pub(crate) fn new(version: u64, front: &'a SealedFront<B>, kept: &'a ShardAt<B>) -> Self
+    pub(crate) fn new(version: u64, front: &'a KnownFront<B>, at: &'a ShardAt<B>) -> Self
         requires { version ≤ last_version front.now }
-        ensures { result ≡ record { version = version; front = front.now; kept = kept.now } }
+        ensures { result ≡ record { version = version; front = front.now; at = at.now } }
     {
-        let _ = front.front();
-        let _ = kept.front.front();
-        kept.front.agree(front);
-        ShardView {
-            version,
-            front,
-            kept,
-        }
+        front.know_entries();
+        at.front.know_entries();
+        at.front.know_one_book(front);
+        ShardView { version, front, at }
     }
 
     /// The first pairs of the range, in the order of keys or in the reverse order, and at most `limit` of them unless
@@ -58,8 +54,8 @@ impl<'a, B: ClusterName> ShardView<'a, B> {
         ensures { Answers result (range_fault self.now range.now) (λ pairs. pairs.items
             ≡ first_of limit (pairs_in (run_map B.config self.now) range.now reverse)) }
     {
-        let kept = self.kept;
-        let found = kept.shard.page(range, self.version, limit, reverse)?;
+        let at = self.at;
+        let found = at.shard.page(range, self.version, limit, reverse)?;
         Ok(found.pairs.into_vec())
     }
 }
@@ -85,13 +81,13 @@ impl<'a, B: ClusterName> Snapshot for ShardView<'a, B> {
     }
 
     fn get(&self, key: &Key) -> Result<Option<Bytes>, Refusal> {
-        let kept = self.kept;
-        kept.shard.get(key, self.version)
+        let at = self.at;
+        at.shard.get(key, self.version)
     }
 
     fn page(&self, range: &KeyRange, limit: u32, reverse: bool) -> Result<Page, Refusal> {
-        let kept = self.kept;
-        let found = kept.shard.page(range, self.version, limit, reverse)?;
+        let at = self.at;
+        let found = at.shard.page(range, self.version, limit, reverse)?;
         Ok(found)
     }
 }

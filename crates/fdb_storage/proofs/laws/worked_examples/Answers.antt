@@ -1,5 +1,4 @@
-use Rattle.std.proofs.Common.{◌≡◌, ◌∙◌, sym, ap, ap₂, refl, arith, ℕ, suc, ◌+◌, max, ◌≤◌, Bool, true, false, not}
-use Rattle.std.proofs.Common.{nat_lt}
+use Rattle.std.proofs.Common.{◌≡◌, ◌∙◌, sym, ap, ap₂, refl, arith, ℕ, ◌+◌, max, ◌≤◌, Bool, true, false, nat_lt}
 use Rattle.std.proofs.Common.{List, fold, length, Option, is_some, if◌then◌else◌}
 use Rattle.std.specs.FinMap.{from_entries}
 use Rattle.std.specs.List.Sorted.{IsStrictlySortedBy}
@@ -14,11 +13,11 @@ use Rattle.fdb_mutations.specs.declared.page.Page.{Page}
 use Rattle.fdb_storage.specs.Shards.{Shard, value_at, kept_of, HasValuesOf, IsNewShard, IsPage, HasApplied}
 use Rattle.fdb_storage.specs.Shards.{HasForgotten}
 use Rattle.fdb_storage.specs.ValueExamples.{changes, growing, peek, rewriting}
-use Rattle.fdb_storage.specs.VersionLists.{changes_at, same_value, kept_from}
+use Rattle.fdb_storage.specs.VersionLists.{same_value, kept_from}
 use Rattle.fdb_storage.specs.KeyPages.{pairs_at, pairs_of}
 use Rattle.fdb_storage.specs.VersionMaps.{AreSorted}
 use Rattle.fdb_storage.proofs.PairsLemmas.{has-pairs, pairs-in_map}
-use Rattle.fdb_storage.proofs.VersionCountLemmas.{count-same}
+use Rattle.fdb_txn.proofs.Exports.{count-alike}
 use Rattle.fdb_storage.proofs.laws.worked_examples.Goals as goal
 
 abbrev Pairs : Type 0
@@ -171,9 +170,7 @@ kept-same : (one other : ℕ → Option (List ℕ)) (floor through : ℕ) → fl
     → kept_from one floor through ≡ kept_from other floor through
 kept-same one other floor through serves same =
     ap₂ (λ (count : ℕ) (value : Option (List ℕ)). count + (if is_some value then 1 else 0))
-    (count-same (changes_at one) (changes_at other) floor through
-    (λ v from below. ap₂ (λ (after before : Option (List ℕ)). not (same_value after before))
-    (same (suc v) (omega arith) (omega arith)) (same v from (omega arith))))
+    (count-alike same_value one other floor through same)
     (same floor (omega arith) serves)
 
 -- what the messages leave at a key is kept, and from the last version on

@@ -1,23 +1,44 @@
-use Rattle.std.proofs.Common.{◌≡◌, ◌∙◌, ap, sym, subst, ℕ, suc, length, List}
-use Rattle.std.proofs.lemmas.Bool.{both_ways}
+use Rattle.std.proofs.Common.{sym, subst, arith}
 use Rattle.std.proofs.lemmas.Result.{err_from_is_err_and}
-use Rattle.fdb_keys.specs.Points.{Point}
-use Rattle.fdb_check.specs.Judging.{IsJudgeAt}
+use Rattle.fdb_owners.specs.Ownership.{resolvers_of}
+use Rattle.fdb_check.specs.Judging.{Judge, IsJudgeAt}
 use Rattle.fdb_roles.specs.Judging.{MayFollow}
 use Rattle.fdb_check.proofs.JudgingLemmas.{taken-judge, lacking-judge}
-use Rattle.fdb_roles.proofs.Exports.{may-follow}
 use Rattle.fdb_check.proofs.judge.Judge.take.Goals as goal
 
-pub returns-then-not-may_follow-clause-outcomes : goal.returns-then-not-may_follow-clause-outcomes
-returns-then-not-may_follow-clause-outcomes c splits before now entries =
-    let at = subst (IsJudgeAt splits before) (sym c.self.view_is) now in
-    let resolvers : c.resolvers.result ≡ suc (length splits) =
-    c.resolvers.ensures ∙ ap (λ (by : List Point). suc (length by)) at.splits_are in
-    absurd
-    (both_ways _ c.if-not-may_follow.true
-    (c.may_follow.ensures.1
-    (subst (λ (n : ℕ). MayFollow c.self.inside.last n c.args.entry.now) (sym resolvers)
-    (may-follow splits before c.args.entry.now entries c.self.inside.last at.last))))
+pub learn-requires-clause-later : goal.learn-requires-clause-later
+learn-requires-clause-later c =
+    let may = subst (λ (judge : Judge). MayFollow judge.last (resolvers_of judge.owners) c.args.entry.now)
+    (sym c.self.view_is) c.requires in
+    let learnt = c.self.invariant.learnt in
+    let later = may.later in
+    omega (arith, learnt, later)
+
+pub learn-requires-clause-targets : goal.learn-requires-clause-targets
+learn-requires-clause-targets c =
+    (subst (λ (judge : Judge). MayFollow judge.last (resolvers_of judge.owners) c.args.entry.now)
+    (sym c.self.view_is) c.requires).moves
+
+pub learn-requires-clause-kept : goal.learn-requires-clause-kept
+learn-requires-clause-kept c =
+    let may = subst (λ (judge : Judge). MayFollow judge.last (resolvers_of judge.owners) c.args.entry.now)
+    (sym c.self.view_is) c.requires in
+    let floor = c.self.invariant.floor in
+    let later = may.later in
+    omega (arith, floor, later)
+
+pub judge_entry-requires-clause-later : goal.judge_entry-requires-clause-later
+judge_entry-requires-clause-later c =
+    let may = subst (λ (judge : Judge). MayFollow judge.last (resolvers_of judge.owners) c.args.entry.now)
+    (sym c.self.view_is) c.requires in
+    let linked = may.linked in
+    let later = may.later in
+    omega (arith, linked, later)
+
+pub judge_entry-requires-clause-reads : goal.judge_entry-requires-clause-reads
+judge_entry-requires-clause-reads c =
+    (subst (λ (judge : Judge). MayFollow judge.last (resolvers_of judge.owners) c.args.entry.now)
+    (sym c.self.view_is) c.requires).reads
 
 pub returns-in_err-outcomes-clause-outcomes : goal.returns-in_err-outcomes-clause-outcomes
 returns-in_err-outcomes-clause-outcomes c splits before now entries =

@@ -9,7 +9,7 @@ use Rattle.fdb_core.proofs.check.shards.has_map.Goals as goal
 
 pub returns : goal.returns
 returns c =
-    let shard = c.args.role.now.core in
+    let shard = c.args.role.now.state in
     let map = c.args.map.now in
     let held = c.copy_into.new.map in
     let range = c.range-range.result.now in

@@ -218,7 +218,7 @@ returns c =
     let role = c.index-commit_proxy.result.now in
     let later = c.finish.new.self in
     let works = (it.tied.each c.args.proxy later (set-here tied.roles.commit_proxies.items c.args.proxy later
-    (slice_get_within tied.roles.commit_proxies.items c.args.proxy role (was first)))).core.works in
+    (slice_get_within tied.roles.commit_proxies.items c.args.proxy role (was first)))).state.works in
     let new : Cluster = record k {
       sessions = c.tell_all.new.sessions;
       acknowledged = c.place_all.new.placed;

@@ -48,7 +48,7 @@ returns-in_err-forget c =
     (unless _ _ (refused-restored k forget tied why
     (flag-at shard_failed k.shards.items c.args.shard role (at found) ∙ working found)
     (forget-refused (restored k tied) tied.refines c.args.shard role (was found) c.args.version why
-    (refused-fault (forget_fault role.core c.args.version) why _ c.in_err-forget.ensures.answers))))
+    (refused-fault (forget_fault role.state c.args.version) why _ c.in_err-forget.ensures.answers))))
     (shard-kept k tied c.args.shard role c.forget.new.self (at found) (working found) c.in_err-forget.ensures.refused)
 
 pub returns : goal.returns
@@ -58,10 +58,10 @@ returns c =
     let shard = c.args.shard in
     let role = c.index_mut-role.result.now in
     let found = (goal.at.returns c).After-index_mut-role in
-    let given = given-fault (forget_fault role.core c.args.version) c.in_ok-forget.field-0
-    (λ _. HasForgotten role.core c.args.version c.forget.new.self) c.in_ok-forget.ensures.answers in
-    let forgotten : HasForgotten role.core c.args.version c.forget.new.self = given.1 in
-    let later : ShardRole = record role { core = c.forget.new.self } in
+    let given = given-fault (forget_fault role.state c.args.version) c.in_ok-forget.field-0
+    (λ _. HasForgotten role.state c.args.version c.forget.new.self) c.in_ok-forget.ensures.answers in
+    let forgotten : HasForgotten role.state c.args.version c.forget.new.self = given.1 in
+    let later : ShardRole = record role { state = c.forget.new.self } in
     let k0 = restored k tied in
     accepted-restored k _ (step.Forget shard c.args.version) tied (record {
       roles = record tied.roles { shards = with_item tied.roles.shards shard later };

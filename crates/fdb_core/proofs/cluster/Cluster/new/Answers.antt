@@ -38,7 +38,7 @@ returns-clause-state c =
       };
       failed = record {
         commit_proxies = all-same proxy_failed false config.proxies c.in_ok-commit_proxies.commit_proxies.items
-            proxies.0 (λ n role at. (proxies.1 n role at).refines.core.works) i;
+            proxies.0 (λ n role at. (proxies.1 n role at).refines.state.works) i;
         resolvers = all-same resolver_failed false (suc (length config.resolver_splits))
             c.in_ok-sequencer.resolvers.items judges.1
             (λ n role at. ((judges.2 n role at).0 config.resolver_splits).state.works) i;

@@ -51,7 +51,7 @@ module _ (c : After-is_idle) where
   unused : is_set (failures_of c.args.self.now).commit_proxies c.args.proxy ≡ false
   unused = flag-at proxy_failed c.args.self.now.commit_proxies.items c.args.proxy c.index-2.result.now there ∙ working
 
-  seen : has_no_batch c.index-2.result.now.core.proxy.stage ≡ is_idle (seen_as c.index-2.result.now).stage
+  seen : has_no_batch c.index-2.result.now.state.proxy.stage ≡ is_idle (seen_as c.index-2.result.now).stage
   seen = idle-seen c.args.self.now.config c.args.self.now.book.items
       (known_to c.args.self.now.sequencer c.args.proxy) c.index-2.result.now
       (c.requires.refines.commit_proxies.each c.args.proxy c.index-2.result.now was)

@@ -50,7 +50,7 @@ returns-in_err-pop c =
     let log = c.index_mut-log.result.now in
     let version = c.version-version.result in
     let its = found (goal.at.returns-in_err-pop c).After-version-version in
-    absurd (never-refused (tag_fault log.core c.args.shard version) c.in_err-pop.field-0.0 _
+    absurd (never-refused (tag_fault log.state c.args.shard version) c.in_err-pop.field-0.0 _
     (pop-faultless (restored k c.requires) c.requires.refines c.args.shard c.len-2.result version
     c.index_mut-role.result.now log its.was its.count its.log_was c.version-version.ensures)
     c.in_err-pop.ensures.answers)
@@ -65,10 +65,10 @@ returns c =
     let log = c.index_mut-log.result.now in
     let version = c.version-version.result in
     let its = found (goal.at.returns c).After-version-version in
-    let dropped : HasPopped log.core shard version c.pop.new.self =
-    (given-fault (tag_fault log.core shard version) c.in_ok-pop.field-0
-    (λ _. HasPopped log.core shard version c.pop.new.self) c.in_ok-pop.ensures.answers).1 in
-    let log-later : LogRole = record log { core = c.pop.new.self } in
+    let dropped : HasPopped log.state shard version c.pop.new.self =
+    (given-fault (tag_fault log.state shard version) c.in_ok-pop.field-0
+    (λ _. HasPopped log.state shard version c.pop.new.self) c.in_ok-pop.ensures.answers).1 in
+    let log-later : LogRole = record log { state = c.pop.new.self } in
     let later : ShardRole = record role { popped = version } in
     let k0 = restored k tied in
     accepted-restored k _ (step.Pop shard) tied (record {

@@ -62,9 +62,9 @@ found c =
 
 -- what the log gave
 peek-is : (c : In_ok-peek) → c.in_ok-peek.peek
-    ≡ peek_of c.index-log.result.now.core c.args.shard c.version.result c.args.limit
-peek-is c = (answers-fault (peek_fault c.index-log.result.now.core c.args.shard c.version.result) c.in_ok-peek.peek
-    (λ peek. peek ≡ peek_of c.index-log.result.now.core c.args.shard c.version.result c.args.limit)
+    ≡ peek_of c.index-log.result.now.state c.args.shard c.version.result c.args.limit
+peek-is c = (answers-fault (peek_fault c.index-log.result.now.state c.args.shard c.version.result) c.in_ok-peek.peek
+    (λ peek. peek ≡ peek_of c.index-log.result.now.state c.args.shard c.version.result c.args.limit)
     c.in_ok-peek.ensures.answers).1
 
 -- the log refuses nothing unless memory runs out
@@ -76,10 +76,10 @@ returns-in_err-peek c =
     let log = c.index-log.result.now in
     let its = found (goal.at.returns-in_err-peek c).After-version in
     lacked k (step.Pull c.args.shard c.args.limit) c.from_residual.result _ c.in_err-peek.field-0.0 (search rules)
-    (lacks-memory (peek_fault log.core c.args.shard c.version.result) c.in_err-peek.field-0.0 _
+    (lacks-memory (peek_fault log.state c.args.shard c.version.result) c.in_err-peek.field-0.0 _
     (peek-faultless (restored k tied) tied.refines c.args.shard c.args.limit c.version.result role log its.was
     (its-log k tied c.args.shard c.len-2.result role log its) c.version.ensures) c.in_err-peek.ensures.answers)
-    (shard-left k tied c.args.shard c.args.limit role role.core its.here its.works (inl refl))
+    (shard-left k tied c.args.shard c.args.limit role role.state its.here its.works (inl refl))
 
 -- and neither does the shard, which is as it was then, or has failed
 pub returns-in_err-apply : goal.returns-in_err-apply
@@ -92,12 +92,12 @@ returns-in_err-apply c =
     let its = found (goal.at.returns-in_err-apply c).After-version in
     lacked k (step.Pull c.args.shard c.args.limit) c.from_residual-in_err-apply.result _ c.in_err-apply.field-0.0
     (search rules)
-    (lacks-memory (apply_fault role.core peek) c.in_err-apply.field-0.0 _
+    (lacks-memory (apply_fault role.state peek) c.in_err-apply.field-0.0 _
     (apply-faultless (restored k tied) tied.refines c.args.shard c.args.limit c.version.result role log its.was
     (its-log k tied c.args.shard c.len-2.result role log its) c.version.ensures peek
     (peek-is (goal.at.returns-in_err-apply c).In_ok-peek)) c.in_err-apply.ensures.answers)
     (shard-left k tied c.args.shard c.args.limit role c.apply.new.self its.here its.works
-    (left-or-failed (apply_fault role.core peek) role.core c.apply.new.self (HasFailed role.core c.apply.new.self)
+    (left-or-failed (apply_fault role.state peek) role.state c.apply.new.self (HasFailed role.state c.apply.new.self)
     c.in_err-apply.ensures.refused c.in_err-apply.ensures.failed))
 
 pub overflow_add-role : goal.overflow_add-role
@@ -125,11 +125,11 @@ returns c =
     let its = found (goal.at.returns c).After-version in
     let log-at = its-log k tied shard c.len-2.result role log its in
     let is = peek-is (goal.at.returns c).In_ok-peek in
-    let applied : HasApplied role.core peek c.apply.new.self =
-    (answers-fault (apply_fault role.core peek) c.in_ok-apply.field-0
-    (λ _. HasApplied role.core peek c.apply.new.self) c.in_ok-apply.ensures.answers).1 in
+    let applied : HasApplied role.state peek c.apply.new.self =
+    (answers-fault (apply_fault role.state peek) c.in_ok-apply.field-0
+    (λ _. HasApplied role.state peek c.apply.new.self) c.in_ok-apply.ensures.answers).1 in
     let k0 = restored k tied in
-    let later : ShardRole = record role { core = c.apply.new.self; applied = role.applied + c.len-3.result } in
+    let later : ShardRole = record role { state = c.apply.new.self; applied = role.applied + c.len-3.result } in
     accepted-restored k _ (step.Pull shard c.args.limit) tied (record {
       roles = record tied.roles { shards = with_item tied.roles.shards shard later };
       commit_proxies = tied.commit_proxies;

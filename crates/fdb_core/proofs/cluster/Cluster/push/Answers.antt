@@ -65,13 +65,13 @@ module _ (c : After-as_slice) where
   here = read-there c.args.self.now.logs.items c.args.log c.index_mut-role.result.now (search rules)
       c.index_mut-role.ensures.value
 
-  working : c.index_mut-role.result.now.core.is_failed ≡ false
+  working : c.index_mut-role.result.now.state.is_failed ≡ false
   working =
       let k = c.args.self.now in
       let same : c.index-2.result.now ≡ c.index_mut-role.result.now =
       one-item k.logs.items c.args.log c.index-2.result.now c.index_mut-role.result.now (search rules)
       c.index-2.ensures here in
-      ap (λ (it : LogRole). it.core.is_failed) (sym same) ∙ sym c.if-is_failed.ensures
+      ap (λ (it : LogRole). it.state.is_failed) (sym same) ∙ sym c.if-is_failed.ensures
 
   was : slice_get c.requires.roles.logs.items c.args.log ≡ Some c.index_mut-role.result.now
   was = restores-at _ _ c.args.self.now.logs.items c.requires.roles.logs.items c.requires.logs c.args.log
@@ -115,10 +115,10 @@ returns-in_err-push c =
     let at = (goal.at.returns-in_err-push c).After-as_slice in
     let p = found at message c.index-as_slice-of.is in
     let left = log-left k tied c.args.entry c.args.log p.entry role c.push.new.self p.there (here at) (working at)
-    (left-or-failed (push_fault role.core message) role.core c.push.new.self
-    (HasFailed role.core c.push.new.self) c.in_err-push.ensures.refused c.in_err-push.ensures.failed) in
+    (left-or-failed (push_fault role.state message) role.state c.push.new.self
+    (HasFailed role.state c.push.new.self) c.in_err-push.ensures.refused c.in_err-push.ensures.failed) in
     refused-unless k push c.from_residual.result _ why (search rules)
-    (unless-fault (push_fault role.core message) why _ _ c.in_err-push.ensures.answers (λ fault. refuses push
+    (unless-fault (push_fault role.state message) why _ _ c.in_err-push.ensures.answers (λ fault. refuses push
     (refused-restored k push tied why (flag-at log_failed k.logs.items c.args.log role (here at) ∙ working at)
     (push-refused (restored k tied) tied.refines c.args.entry c.args.log p.entry role p.there p.at p.messages p.pooled
     message p.message_there why fault))
@@ -144,10 +144,10 @@ returns c =
     let message = c.index-as_slice-of.result in
     let at = (goal.at.returns c).After-as_slice in
     let p = found at message c.index-as_slice-of.is in
-    let faultless = (answers-fault (push_fault role.core message) c.in_ok-push.field-0 _
+    let faultless = (answers-fault (push_fault role.state message) c.in_ok-push.field-0 _
     c.in_ok-push.ensures.answers).0 in
     let k0 = restored k tied-before in
-    let later : LogRole = record { core = c.push.new.self; taken = role.taken + 1 } in
+    let later : LogRole = record { state = c.push.new.self; taken = role.taken + 1 } in
     let refines = tied k0 tied-before.refines c.args.entry log p.entry role p.there p.at p.messages p.pooled message
     p.message_there faultless c.push.new.self c.in_ok-push.ensures.taken in
     accepted-restored k _ (step.Push c.args.entry log) tied-before (record {

@@ -28,7 +28,7 @@ use Rattle.fdb_roles.specs.Entries.{entry_of}
 use Rattle.fdb_machine.proofs.Exports.{unless, unless-lacked, seals-transition, length-sealed}
 use Rattle.fdb_roles.proofs.Exports.{gives, map-at, map-set, read-there}
 use Rattle.fdb_core.proofs.refinement.BookPushes.{book-push, resolvers-push, parts-push, logs-push}
-use Rattle.fdb_core.proofs.refinement.commit_proxy.CoreSealing.{learns, ticket-for}
+use Rattle.fdb_core.proofs.refinement.commit_proxy.StateSealing.{learns, ticket-for}
 use Rattle.fdb_core.proofs.refinement.commit_proxy.Sealing.{ticket_for, next-ticket, reads-below, entry-is, proxy-is}
 use Rattle.fdb_core.proofs.refinement.commit_proxy.Sealing.{follows}
 use Rattle.fdb_core.proofs.refinement.commit_proxy.Failing.{proxy-flags, proxy-tied, proxy-was}
@@ -131,7 +131,7 @@ seal-requires c =
     (reads-below (restored k c.requires) c.requires.refines c.args.proxy c.args.advance role (was before)
     c.in_ok-ticket.ticket (given before).1)
 
--- memory ran out, and the proxy's core may have failed
+-- memory ran out, and the proxy's state may have failed
 pub returns-in_err-batch : goal.returns-in_err-batch
 returns-in_err-batch c =
     let k = c.args.self.now in
@@ -187,7 +187,7 @@ returns c =
     let places : length c.as_slice.result.now ≡ length (take place_limit role.waiting) =
     ap (λ (batch : List Transaction). length batch) c.as_slice.ensures.places
     ∙ length-sealed role.waiting batch is.batch_is in
-    let works = is.refines.core.works in
+    let works = is.refines.state.works in
     let new : Cluster = record now {
       book = c.push_reserved.new.self;
       entry_proxies = c.add_undecided.new.entry_proxies;

@@ -97,8 +97,8 @@ returns-in-None c =
     let before = tied.refines in
     let role = c.index_mut-commit_proxy.result.now in
     let at = (goal.at.returns-in-None c).After-index_mut-commit_proxy in
-    let is = subst (λ (given : Option Transcript). Submits c.args.session k.sessions role.core.proxy role.waiting
-    (Ok given) c.submit.new.sessions c.submit.new.self.core.proxy c.submit.new.self.waiting) c.in-None.is
+    let is = subst (λ (given : Option Transcript). Submits c.args.session k.sessions role.state.proxy role.waiting
+    (Ok given) c.submit.new.sessions c.submit.new.self.state.proxy c.submit.new.self.waiting) c.in-None.is
     c.in_ok-submit.ensures.submits in
     let taken = one-more k.config k.book.items (known_to k.sequencer c.args.proxy) role
     (before.commit_proxies.each c.args.proxy role (was at)) c.submit.new.self c.in_ok-submit.ensures.others is.0
@@ -130,8 +130,8 @@ returns-in-Some c =
     let role = c.index_mut-commit_proxy.result.now in
     let at = (goal.at.returns-in-Some c).After-index_mut-commit_proxy in
     let transcript = c.in-Some.transcript in
-    let is = subst (λ (given : Option Transcript). Submits c.args.session k.sessions role.core.proxy role.waiting
-    (Ok given) c.submit.new.sessions c.submit.new.self.core.proxy c.submit.new.self.waiting) c.in-Some.is
+    let is = subst (λ (given : Option Transcript). Submits c.args.session k.sessions role.state.proxy role.waiting
+    (Ok given) c.submit.new.sessions c.submit.new.self.state.proxy c.submit.new.self.waiting) c.in-Some.is
     c.in_ok-submit.ensures.submits in
     let others = c.in_ok-submit.ensures.others in
     let told = c.acknowledge.ensures.items

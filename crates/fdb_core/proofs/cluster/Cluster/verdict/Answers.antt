@@ -60,7 +60,8 @@ sent_on-requires c =
     let before = sent-before at in
     subst (λ (sent : List Verdicts). c.args.entry < length sent) (sym before.2.1)
     (was-sent (restored c.args.self.now c.requires) c.requires.refines c.args.entry c.args.resolver c.in_ok-at.at
-    (still-found c.args.self.now c.requires c.args.entry (FromResolver c.args.resolver) c.in_ok-at.at c.in_ok-at.ensures)
+    (still-found c.args.self.now c.requires c.args.entry (FromResolver c.args.resolver)
+    c.in_ok-at.at c.in_ok-at.ensures)
     before.0 before.1)
 
 -- the proxy, which works

@@ -11,6 +11,6 @@ pub loop-log-preserved : goal.loop-log-preserved
 loop-log-preserved c =
     rw c.in_ok-push.ensures.items
     (one-log c.loop-log.log c.args.logs c.args.tags c.loop-log.list.items
-    (record { core = c.in_ok-core.core; taken = 0 }) c.loop-log.invariant
-    (answers-fault (config_fault c.loop-log.log c.args.logs c.args.tags) c.in_ok-core.core
-    (IsNewLog c.loop-log.log c.args.logs c.args.tags) c.in_ok-core.ensures).1 refl)
+    (record { state = c.in_ok-state.state; taken = 0 }) c.loop-log.invariant
+    (answers-fault (config_fault c.loop-log.log c.args.logs c.args.tags) c.in_ok-state.state
+    (IsNewLog c.loop-log.log c.args.logs c.args.tags) c.in_ok-state.ensures).1 refl)

@@ -11,14 +11,14 @@ pub loop-tag-preserved : goal.loop-tag-preserved
 loop-tag-preserved c =
     rw c.in_ok-push.ensures.items
     (one-shard c.loop-tag.tag c.args.shard_map.now c.loop-tag.list.items
-    (record { core = c.new-core.result; applied = 0; popped = 0 }) c.loop-tag.invariant
+    (record { state = c.new-state.result; applied = 0; popped = 0 }) c.loop-tag.invariant
     (record {
-      tag = c.new-core.ensures.tag;
-      range = c.new-core.ensures.range
+      tag = c.new-state.ensures.tag;
+      range = c.new-state.ensures.range
           ∙ (answers-fault (piece_fault c.args.shard_map.now c.loop-tag.tag) c.in_ok-range.field-0
           (λ range. range ≡ piece c.args.shard_map.now c.loop-tag.tag) c.in_ok-range.ensures).1;
-      version = c.new-core.ensures.version;
-      floor = c.new-core.ensures.floor;
-      works = c.new-core.ensures.works;
-      empty = c.new-core.ensures.empty;
+      version = c.new-state.ensures.version;
+      floor = c.new-state.ensures.floor;
+      works = c.new-state.ensures.works;
+      empty = c.new-state.ensures.empty;
     }) refl refl)

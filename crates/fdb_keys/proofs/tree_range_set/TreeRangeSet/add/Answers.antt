@@ -5,7 +5,7 @@ use Rattle.std.specs.Ordering.{nat_cmp}
 use Rattle.std.proofs.lemmas.Bool.{not-false, cond-true, cond-false}
 use Rattle.fdb_keys.specs.Insertion.{inserted}
 use Rattle.fdb_keys.specs.Points.{Point, point_lt}
-use Rattle.fdb_keys.specs.RangeMaps.{AreUnderBegins, begins_within, without}
+use Rattle.fdb_keys.specs.RangeMaps.{AreUnderBegins, begins_within, without_points}
 use Rattle.fdb_keys.specs.Ranges.{Range, in_set, is_apart, is_empty_range}
 use Rattle.fdb_keys.specs.Touching.{last_by, ends_by}
 use Rattle.fdb_keys.proofs.ApartLemmas.{in_with_range, with_range-held}
@@ -61,7 +61,7 @@ made c =
     added-is range joined entries c.replace.new.ranges.entries some c.self.invariant.0 c.self.invariant.1
     c.in_ok-joined.ensures
     (c.in_ok-replace.ensures.ok
-    ∙ ap (λ keys. without keys (insert_entry (slice_cmp nat_cmp) entries joined.begin joined)) others)
+    ∙ ap (λ keys. without_points keys (insert_entry (slice_cmp nat_cmp) entries joined.begin joined)) others)
 
 pub invariant_of-self-2 : goal.invariant_of-self-2
 invariant_of-self-2 c = ((made c).1, (made c).2)

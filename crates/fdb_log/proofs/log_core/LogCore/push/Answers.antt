@@ -1,5 +1,5 @@
 use Rattle.std.proofs.Common.{◌≡◌, ◌∙◌, ap, ◌<◌, ◌≤◌, false, length, arith}
-use Rattle.fdb_txn.proofs.Exports.{all-weaken}
+use Rattle.fdb_keys.proofs.Exports.{all-weaken}
 use Rattle.fdb_log.specs.Logs.{Log}
 use Rattle.fdb_log.specs.Waiting.{Waiting}
 use Rattle.fdb_log.proofs.FaultLemmas.{push_fault-none}

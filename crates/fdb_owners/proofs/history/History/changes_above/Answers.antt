@@ -1,7 +1,9 @@
 use Rattle.std.proofs.Common.{◌∙◌, sym, ap, subst, ℕ, ◌≤◌, List}
+use Rattle.fdb_keys.proofs.Exports.{all-parts, ordered-front}
 use Rattle.fdb_owners.specs.declared.history.Change.{Change}
-use Rattle.fdb_owners.specs.Histories.{owner_by, differing, changes_at, count_between, AreFalling, AreUpTo}
-use Rattle.fdb_owners.proofs.HistoryLemmas.{falling-front, all-of_both}
+use Rattle.fdb_txn.specs.Versions.{count_between}
+use Rattle.fdb_owners.specs.Histories.{owner_by, differing, changes_at, AreFalling, AreUpTo}
+use Rattle.fdb_owners.proofs.HistoryLemmas.{comes_before}
 use Rattle.fdb_owners.proofs.CountLemmas.{count-above}
 use Rattle.fdb_owners.proofs.history.History.changes_above.Goals as goal
 
@@ -13,9 +15,9 @@ returns c last within =
     c.count_differing.ensures
     ∙ ap (λ (owner : ℕ). differing owner above) c.latest_of.ensures
     ∙ count-above first above through c.args.floor last
-    (falling-front above through (subst AreFalling (sym c.as_slice.ensures
+    (ordered-front comes_before above through (subst AreFalling (sym c.as_slice.ensures
     ∙ c.split_by.ensures.parts) c.requires)) c.split_by.ensures.above
-    (all-of_both (λ (change : Change). change.version ≤ last) above through
+    (all-parts (λ (change : Change). change.version ≤ last) above through
     (subst (AreUpTo last) (sym c.as_slice.ensures ∙ c.split_by.ensures.parts) within)).0
     c.split_by.ensures.through
     ∙ ap (λ (changes : List Change). count_between (changes_at (owner_by first changes)) c.args.floor last)

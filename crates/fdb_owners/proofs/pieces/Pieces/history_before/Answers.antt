@@ -4,7 +4,7 @@ use Rattle.fdb_owners.proofs.pieces.Pieces.history_before.Goals as goal
 
 pub returns-in-Some-clause-value : goal.returns-in-Some-clause-value
 returns-in-Some-clause-value c =
-    before-last-some c.args.self.now.front c.args.self.now.breaks.entries c.next_back.new.self
+    before-last-some c.args.self.now.lowest c.args.self.now.breaks.entries c.next_back.new.self
     (c.in-Some._begin.now, c.in-Some.history.now) c.args.point.now
     (sym (c.range.ensures.between tt) ∙ c.in-Some.ensures.steps)
 
@@ -13,7 +13,7 @@ returns-in-Some-clause-rising c = rising_from_sorted c.args.self.now.breaks.entr
 
 pub returns-in-None-clause-value : goal.returns-in-None-clause-value
 returns-in-None-clause-value c =
-    before-last-none c.args.self.now.front c.args.self.now.breaks.entries c.args.point.now
+    before-last-none c.args.self.now.lowest c.args.self.now.breaks.entries c.args.point.now
     (sym (c.range.ensures.between tt) ∙ c.in-None.ensures.steps.0)
 
 pub returns-in-None-clause-rising : goal.returns-in-None-clause-rising

@@ -9,7 +9,7 @@ returns-in-Some-2-clause-history c =
     let up_to : point_lt c.args.begin.now c.in-Some.point.now ≡ false = search rules in
     value-throughout entries c.next_back.new.self (c.in-Some.point.now, c.in-Some._history.now) c.args.begin.now
     c.args.end.now (rising_from_sorted entries c.range.ensures.ordered) c.requires
-    (sym (c.range.ensures.between tt) ∙ c.in-Some.ensures.steps) c.args.self.now.front up_to
+    (sym (c.range.ensures.between tt) ∙ c.in-Some.ensures.steps) c.args.self.now.lowest up_to
 
 pub returns-in-Some-2-clause-inside : goal.returns-in-Some-2-clause-inside
 returns-in-Some-2-clause-inside c =
@@ -23,7 +23,7 @@ pub returns-in-None-clause-history : goal.returns-in-None-clause-history
 returns-in-None-clause-history c =
     let entries = c.args.self.now.breaks.entries in
     value-nowhere entries c.args.begin.now c.args.end.now (rising_from_sorted entries c.range.ensures.ordered)
-    c.requires (sym (c.range.ensures.between tt) ∙ c.in-None.ensures.steps.0) c.args.self.now.front
+    c.requires (sym (c.range.ensures.between tt) ∙ c.in-None.ensures.steps.0) c.args.self.now.lowest
 
 pub returns-in-None-clause-inside : goal.returns-in-None-clause-inside
 returns-in-None-clause-inside c =

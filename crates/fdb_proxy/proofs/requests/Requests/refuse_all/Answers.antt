@@ -1,7 +1,7 @@
 use Rattle.std.proofs.Common.{[], arith, rules}
 use Rattle.std.proofs.lemmas.Grind.{common_steps}
 use Rattle.std.proofs.lemmas.List.{append-nil}
-use Rattle.fdb_proxy.specs.RequestFields.{front_of}
+use Rattle.fdb_proxy.specs.RequestFields.{places_of}
 use Rattle.fdb_proxy.proofs.NameLemmas.{names-first, names-others}
 use Rattle.fdb_proxy.proofs.requests.Requests.refuse_all.Goals as goal
 use Rattle.fdb_proxy.proofs.requests.Requests.refuse_all.Goals.{then-not-self, else-not-self}
@@ -20,15 +20,15 @@ invariant_of-self c =
     elim c.if-not-self.branch [
       | then-not-self w ↦
           let others =
-          names-others r.names w.drop_front.new.names (front_of r.front) r.list.items c.self.invariant.names
-          w.drop_front.ensures.names in
-          rw (w.self-inside-is, w.drop_front.ensures.none) (record {
+          names-others r.names w.drop_last_batch.new.names (places_of r.last_batch) r.list.items c.self.invariant.names
+          w.drop_last_batch.ensures.names in
+          rw (w.self-inside-is, w.drop_last_batch.ensures.none) (record {
             ids = grind (arith, common_steps);
             room = grind (arith, common_steps);
             no_ids = search rules;
             none_in_room = search rules;
             names = rw c.clear.ensures.items
-                (names-first w.drop_front.new.names c.remove_all.new.self [] r.list.items others
+                (names-first w.drop_last_batch.new.names c.remove_all.new.self [] r.list.items others
                 (rw (c.deref-2.ensures.value, w.self-inside-is) at c.remove_all.ensures));
           })
       | else-not-self w ↦
@@ -37,8 +37,8 @@ invariant_of-self c =
             room = grind (arith, common_steps);
             no_ids = search rules;
             none_in_room = search rules;
-            names = rw (c.clear.ensures.items, append-nil (front_of r.front))
-                (names-first r.names c.remove_all.new.self (front_of r.front) r.list.items c.self.invariant.names
+            names = rw (c.clear.ensures.items, append-nil (places_of r.last_batch))
+                (names-first r.names c.remove_all.new.self (places_of r.last_batch) r.list.items c.self.invariant.names
                 (rw (c.deref-2.ensures.value, w.self-inside-is) at c.remove_all.ensures));
           })
     ]

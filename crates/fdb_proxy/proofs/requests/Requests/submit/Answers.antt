@@ -3,7 +3,7 @@ use Rattle.std.proofs.lemmas.Grind.{common_steps}
 use Rattle.std.proofs.lemmas.List.{append_assoc}
 use Rattle.fdb_txn.specs.Equality.{txn_id_eq}
 use Rattle.fdb_proxy.specs.Names.{has}
-use Rattle.fdb_proxy.specs.RequestFields.{all_of, front_of}
+use Rattle.fdb_proxy.specs.RequestFields.{all_of, places_of}
 use Rattle.fdb_proxy.specs.Requests.{Requests, is_named, place_of}
 use Rattle.fdb_proxy.proofs.NameLemmas.{names-pushed, no_name}
 use Rattle.fdb_proxy.proofs.RequestLemmas.{all_in_parts}
@@ -30,7 +30,10 @@ invariant_of-self c =
       room = search rules;
       no_ids = search rules;
       none_in_room = search rules;
-      names = rw (c.push_reserved.ensures.items, ← append_assoc (front_of r.front) r.list.items (c.args.sealed ∷ []))
+      names = rw (
+        c.push_reserved.ensures.items,
+        ← append_assoc (places_of r.last_batch) r.list.items (c.args.sealed ∷ []),
+      )
           (names-pushed r.names c.add.new.self (all_of r) c.args.sealed c.self.invariant.names (none c)
           (λ id. c.add.ensures id ∙ ap (λ own. txn_id_eq own id || has r.names id) c.id.ensures));
     }

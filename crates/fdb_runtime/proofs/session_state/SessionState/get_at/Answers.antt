@@ -10,6 +10,6 @@ returns-in_err-version-clause-fault g c =
 pub returns-clause-fault : goal.returns-clause-fault
 returns-clause-fault g c =
     read-refused c.args.self.now.current c.get.result _ _ _
-    (shard-fault c.args.self.now.current c.args.kept.now c.new-view.result c.args.self.now.front
+    (shard-fault c.args.self.now.current c.args.at.now c.new-view.result c.args.self.now.front
     (c.in_ok-version.version, c.in_ok-version.front) c.args.key.now c.new-view.ensures c.in_ok-version.ensures.answers)
     c.get.ensures.answers

@@ -58,7 +58,7 @@ pub returns-clause-fault : goal.returns-clause-fault
 returns-clause-fault g c =
     let current = c.args.self.now.current in
     let range = c.args.range.now in
-    let shards = lent_shards c.args.kept.now in
+    let shards = lent_shards c.args.shards.now in
     let lent : LentShards = c.in_ok-lent.lent in
     let none : lending_fault c.in_ok-version.version range shards ≡ None =
     ap (λ (version : ℕ). lending_fault version range shards) (sym c.new-reader.ensures.version)

@@ -9,8 +9,8 @@ invariant_of-self g c =
     let splits = g.B.ClusterName.config.resolver_splits in
     let own = c.self.inside in
     let front = c.in_ok-front.front in
-    let version : c.version-version.result ≤ last_version c.sealed_front.result.now =
-    subst (λ (seen : List Entry). c.version-version.result ≤ last_version seen) (sym c.sealed_front.ensures.value)
+    let version : c.version-version.result ≤ last_version c.known_front.result.now =
+    subst (λ (seen : List Entry). c.version-version.result ≤ last_version seen) (sym c.known_front.ensures.value)
     c.version-version.ensures.reached in
     let mark : c.max-self-inside.result ≤ last_version front =
     omega (
@@ -22,4 +22,4 @@ invariant_of-self g c =
       c.in_ok-front.ensures.reaches.1,
     ) in
     grown splits (suc (length splits)) own.number own.next_number c.max-self-inside.result own.front front own.current
-    c.front.ensures.entries c.in_ok-front.ensures.begins.0 mark c.self.invariant.1
+    c.know_entries.ensures c.in_ok-front.ensures.begins.0 mark c.self.invariant.1

@@ -10,4 +10,4 @@ invariant_of-self g c =
     let front = c.in_ok-front.front in
     let mark : own.mark ≤ last_version front = omega (arith, c.self.invariant.0, c.in_ok-front.ensures.reaches.0) in
     grown splits (suc (length splits)) own.number own.next_number own.mark own.front front own.current
-    c.front.ensures.entries c.in_ok-front.ensures.begins.0 mark c.self.invariant.1
+    c.know_entries.ensures c.in_ok-front.ensures.begins.0 mark c.self.invariant.1

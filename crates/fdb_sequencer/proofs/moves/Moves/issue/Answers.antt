@@ -1,6 +1,6 @@
 use Rattle.std.proofs.Common.{◌≡◌, ◌≤◌, ◌∙◌, sym, subst, ap, ℕ, length, vec_len, arith}
 use Rattle.std.specs.List.{AllByRecursion}
-use Rattle.fdb_txn.proofs.Exports.{all-weaken}
+use Rattle.fdb_keys.proofs.Exports.{all-weaken}
 use Rattle.fdb_sequencer.specs.Moves.{Moves, in_effect}
 use Rattle.fdb_sequencer.specs.MoveFields.{moves_of}
 use Rattle.fdb_sequencer.proofs.MoveLemmas.{issued_at, nothing_in_effect}

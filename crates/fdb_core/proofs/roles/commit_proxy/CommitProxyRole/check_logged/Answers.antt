@@ -1,4 +1,4 @@
-use Rattle.fdb_core.proofs.refinement.commit_proxy.CoreStages.{checks-logged}
+use Rattle.fdb_core.proofs.refinement.commit_proxy.StateStages.{checks-logged}
 use Rattle.fdb_core.proofs.roles.commit_proxy.CommitProxyRole.check_logged.Goals as goal
 
 pub returns-clause-answers : goal.returns-clause-answers

@@ -1,4 +1,4 @@
-use Rattle.fdb_core.proofs.refinement.commit_proxy.CoreDeciding.{decides-answers}
+use Rattle.fdb_core.proofs.refinement.commit_proxy.StateDeciding.{decides-answers}
 use Rattle.fdb_core.proofs.roles.commit_proxy.CommitProxyRole.decide.Goals as goal
 
 pub returns-clause-decides : goal.returns-clause-decides

@@ -1,5 +1,5 @@
 use Rattle.std.proofs.Common.{◌∙◌}
-use Rattle.fdb_core.proofs.refinement.commit_proxy.CoreStages.{finishes}
+use Rattle.fdb_core.proofs.refinement.commit_proxy.StateStages.{finishes}
 use Rattle.fdb_core.proofs.roles.commit_proxy.CommitProxyRole.finish.Goals as goal
 
 pub returns : goal.returns

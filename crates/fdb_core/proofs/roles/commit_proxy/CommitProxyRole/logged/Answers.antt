@@ -1,4 +1,4 @@
-use Rattle.fdb_core.proofs.refinement.commit_proxy.CoreStages.{takes-acknowledgement}
+use Rattle.fdb_core.proofs.refinement.commit_proxy.StateStages.{takes-acknowledgement}
 use Rattle.fdb_core.proofs.roles.commit_proxy.CommitProxyRole.logged.Goals as goal
 
 pub returns-clause-answers : goal.returns-clause-answers

@@ -7,10 +7,10 @@ use Rattle.fdb_core.proofs.roles.commit_proxy.CommitProxyRole.new.Goals as goal
 pub returns : goal.returns
 returns c =
     commit_proxy-start c.args.index c.args.config.now _
-    (answers-fault (new_fault c.args.index c.args.config.now) c.in_ok-core.core
-    (λ (core : ProxyWithRoom). IsNewProxy c.args.index c.args.config.now core.proxy) c.in_ok-core.ensures).1
+    (answers-fault (new_fault c.args.index c.args.config.now) c.in_ok-state.state
+    (λ (state : ProxyWithRoom). IsNewProxy c.args.index c.args.config.now state.proxy) c.in_ok-state.ensures).1
     (λ i. record {
-      core = c.in_ok-core.core;
+      state = c.in_ok-state.state;
       waiting = c.new-2.ensures i;
       in_flight = c.new-3.ensures i;
       entry = 0;

@@ -1,4 +1,4 @@
-use Rattle.fdb_core.proofs.refinement.commit_proxy.CoreDeciding.{takes-verdicts}
+use Rattle.fdb_core.proofs.refinement.commit_proxy.StateDeciding.{takes-verdicts}
 use Rattle.fdb_core.proofs.roles.commit_proxy.CommitProxyRole.verdict.Goals as goal
 
 pub returns-clause-answers : goal.returns-clause-answers

@@ -33,11 +33,11 @@ module _ (c : After-sealed) where
   was = finished-some c.args.sessions.now c.args.session c.in_ok-transcript.field-0 c.in_ok-transcript.ensures.answers
       c.in-ToCommit.sealed c.in-ToCommit.transcript c.in-ToCommit.is
 
-  faultless : core_fault c.args.core.now.proxy c.in-ToCommit.sealed ≡ None
+  faultless : core_fault c.args.state.now.proxy c.in-ToCommit.sealed ≡ None
   faultless =
-      ap (core_fault c.args.core.now.proxy) was.3
+      ap (core_fault c.args.state.now.proxy) was.3
       ∙ subst (λ (there : Option Transcript).
-      IfSome there (λ (t : Transcript). core_fault c.args.core.now.proxy (commit_request_of t) ≡ None)) was.0
+      IfSome there (λ (t : Transcript). core_fault c.args.state.now.proxy (commit_request_of t) ≡ None)) was.0
       c.requires.taken
 
 -- a session that had a transaction has an entry, so no memory is needed for it to wait
@@ -60,8 +60,8 @@ returns-in-Ok c =
           ∙ ap (λ (sessions : Sessions). with_state sessions c.args.session Waiting) c.in_ok-transcript.ensures.ok
           ∙ state-again before c.args.session Idle Waiting,
       gave _ c.in-Ok.field-0 c.in-ToCommit.sealed (λ _. c.submit.new.self.proxy
-          ≡ submitting c.args.core.now.proxy c.in-ToCommit.sealed) c.in-Ok.ensures.answers
-          ∙ ap (submitting c.args.core.now.proxy) is.3,
+          ≡ submitting c.args.state.now.proxy c.in-ToCommit.sealed) c.in-Ok.ensures.answers
+          ∙ ap (submitting c.args.state.now.proxy) is.3,
       c.push_reserved.ensures.items
           ∙ ap (λ (all : List Transcript). all ++ transcript ∷ []) c.reserve.ensures.items,
     )

@@ -13,17 +13,17 @@ pub returns-in_err-verdicts-clause-takes : goal.returns-in_err-verdicts-clause-t
 returns-in_err-verdicts-clause-takes c splits before entry i index at entries of =
     let same : c.from_residual-in_err-verdicts.result ≡ Err c.in_err-verdicts.field-0.0 = search rules in
     rw same (lacks-memory-alone splits before entry i index c.args.self.now at entries c.args.part.now of
-    (record c.args.self.now { core = c.take.new.self }) c.in_err-verdicts.field-0.0 c.in_err-verdicts.ensures.answers)
+    (record c.args.self.now { state = c.take.new.self }) c.in_err-verdicts.field-0.0 c.in_err-verdicts.ensures.answers)
 
--- where its core refuses, it took and sent nothing
+-- where its state refuses, it took and sent nothing
 pub returns-in_err-verdicts-clause-left : goal.returns-in_err-verdicts-clause-left
 returns-in_err-verdicts-clause-left c =
     let same : c.from_residual-in_err-verdicts.result ≡ Err c.in_err-verdicts.field-0.0 = search rules in
     rw same (record {
       taken = refl;
       sent = c.reserve.ensures.items;
-      core = left-or-failed (part_fault c.args.self.now.core c.args.part.now) c.args.self.now.core c.take.new.self
-          (HasFailed c.args.self.now.core c.take.new.self) c.in_err-verdicts.ensures.refused
+      state = left-or-failed (part_fault c.args.self.now.state c.args.part.now) c.args.self.now.state c.take.new.self
+          (HasFailed c.args.self.now.state c.take.new.self) c.in_err-verdicts.ensures.refused
           c.in_err-verdicts.ensures.failed;
     })
 
@@ -32,16 +32,16 @@ returns-clause-takes c splits before entry i index at entries of =
     let same : c.from_vec.result ≡ c.in_ok-verdicts.verdicts.answers = search rules in
     takes-next splits before entry i index c.args.self.now at entries c.args.part.now of c.take.new.self
     c.in_ok-verdicts.verdicts c.from_vec.result
-    (record { core = c.take.new.self; taken = c.args.self.now.taken + 1; sent = c.push_reserved.new.self })
+    (record { state = c.take.new.self; taken = c.args.self.now.taken + 1; sent = c.push_reserved.new.self })
     c.in_ok-verdicts.ensures.answers c.in_ok-verdicts.ensures.taken same refl refl
     (c.push_reserved.ensures.items
     ∙ ap (λ (sent : List Verdicts). sent ++ c.in_ok-verdicts.verdicts ∷ []) c.reserve.ensures.items)
 
 pub copy_all-requires : goal.copy_all-requires
 copy_all-requires c =
-    let many = as-many c.args.part.now c.args.self.now.core c.in_ok-verdicts.verdicts
-    (answers-fault (part_fault c.args.self.now.core c.args.part.now) c.in_ok-verdicts.verdicts
-    (IsAnswer c.args.self.now.core c.args.part.now) c.in_ok-verdicts.ensures.answers).1 in
+    let many = as-many c.args.part.now c.args.self.now.state c.in_ok-verdicts.verdicts
+    (answers-fault (part_fault c.args.self.now.state c.args.part.now) c.in_ok-verdicts.verdicts
+    (IsAnswer c.args.self.now.state c.args.part.now) c.in_ok-verdicts.ensures.answers).1 in
     let items : length c.as_slice.result.now ≡ length c.args.part.now.items =
     ap (λ (list : List Item). length list) c.as_slice.ensures in
     let answers : length c.as_slice-2.result.now ≡ length c.in_ok-verdicts.verdicts.answers =

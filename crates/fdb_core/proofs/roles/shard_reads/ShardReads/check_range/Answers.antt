@@ -20,23 +20,23 @@ tested seen reads range failed forgotten ahead view readable legal is_failed is_
 
 pub returns-then-is_failed-clause-answers : goal.returns-then-is_failed-clause-answers
 returns-then-is_failed-clause-answers c =
-    rw (tested _ c.args.self.now c.args.range.now true _ _ c.self.view_is c.self.invariant.1 c.end-end.ensures.legal
+    rw (tested _ c.args.self.now c.args.range.now true _ _ c.self.view_is c.self.invariant.1 c.know_end.ensures
     (sym c.if-is_failed.true ∙ c.is_failed.ensures) refl refl) refl
 
 pub returns-then-is_forgotten-clause-answers : goal.returns-then-is_forgotten-clause-answers
 returns-then-is_forgotten-clause-answers c =
     rw (tested _ c.args.self.now c.args.range.now false true _ c.self.view_is c.self.invariant.1
-    c.end-end.ensures.legal (sym c.if-is_failed.false ∙ c.is_failed.ensures)
+    c.know_end.ensures (sym c.if-is_failed.false ∙ c.is_failed.ensures)
     (sym c.if-is_forgotten.true ∙ c.is_forgotten.ensures) refl) refl
 
 pub returns-then-is_ahead-clause-answers : goal.returns-then-is_ahead-clause-answers
 returns-then-is_ahead-clause-answers c =
     rw (tested _ c.args.self.now c.args.range.now false false true c.self.view_is c.self.invariant.1
-    c.end-end.ensures.legal (sym c.if-is_failed.false ∙ c.is_failed.ensures)
+    c.know_end.ensures (sym c.if-is_failed.false ∙ c.is_failed.ensures)
     (sym c.if-is_forgotten.false ∙ c.is_forgotten.ensures) (sym c.if-is_ahead.true ∙ c.is_ahead.ensures)) refl
 
 pub returns-clause-answers : goal.returns-clause-answers
 returns-clause-answers c =
     rw (tested _ c.args.self.now c.args.range.now false false false c.self.view_is c.self.invariant.1
-    c.end-end.ensures.legal (sym c.if-is_failed.false ∙ c.is_failed.ensures)
+    c.know_end.ensures (sym c.if-is_failed.false ∙ c.is_failed.ensures)
     (sym c.if-is_forgotten.false ∙ c.is_forgotten.ensures) (sym c.if-is_ahead.false ∙ c.is_ahead.ensures)) tt

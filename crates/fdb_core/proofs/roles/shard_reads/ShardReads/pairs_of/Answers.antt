@@ -14,10 +14,10 @@ returns-in_err-page-in-Some c = λ i there.
     let reads = c.args.self.now in
     let role = c.args.role.now in
     let why = c.in_err-page-in-Some.field-0.0 in
-    let clipped : clipped_range c.args.range.now role.core.range ≡ Some c.in-Some.part =
+    let clipped : clipped_range c.args.range.now role.state.range ≡ Some c.in-Some.part =
     ap (clipped_range c.args.range.now) (sym c.range.ensures) ∙ sym c.in_ok-part.ensures.answers ∙ c.in-Some.is in
-    let served : storage.range_fault role.core c.in-Some.part c.self.inside.version ≡ None =
-    ap (λ (it : ShardReads). storage.range_fault role.core c.in-Some.part it.version) c.self.view_is
+    let served : storage.range_fault role.state c.in-Some.part c.self.inside.version ≡ None =
+    ap (λ (it : ShardReads). storage.range_fault role.state c.in-Some.part it.version) c.self.view_is
     ∙ page-served reads (subst AreReadable c.self.view_is c.self.invariant.1) c.args.range.now c.requires.legal
     c.requires.served i role there c.in-Some.part clipped in
     let same : c.from_residual-in_err-page-in-Some.result ≡ Err why = search rules in
@@ -30,15 +30,15 @@ returns-in_ok-page-in-Some c = λ i there.
     let role = c.args.role.now in
     let part = c.in-Some.part in
     let readable = subst AreReadable c.self.view_is c.self.invariant.1 in
-    let clipped : clipped_range c.args.range.now role.core.range ≡ Some part =
+    let clipped : clipped_range c.args.range.now role.state.range ≡ Some part =
     ap (clipped_range c.args.range.now) (sym c.range.ensures) ∙ sym c.in_ok-part.ensures.answers ∙ c.in-Some.is in
-    let served : storage.range_fault role.core part c.self.inside.version ≡ None =
-    ap (λ (it : ShardReads). storage.range_fault role.core part it.version) c.self.view_is
+    let served : storage.range_fault role.state part c.self.inside.version ≡ None =
+    ap (λ (it : ShardReads). storage.range_fault role.state part it.version) c.self.view_is
     ∙ page-served reads readable c.args.range.now c.requires.legal c.requires.served i role there part clipped in
-    let page : IsPage role.core part c.self.inside.version c.args.limit c.args.reverse c.in_ok-page-in-Some.page =
+    let page : IsPage role.state part c.self.inside.version c.args.limit c.args.reverse c.in_ok-page-in-Some.page =
     rw served at c.in_ok-page-in-Some.ensures in
-    let has : HasValuesOf role.core c.self.inside.version part (run_map reads) =
-    subst (λ (it : ShardReads). HasValuesOf role.core it.version part (run_map reads)) (sym c.self.view_is)
+    let has : HasValuesOf role.state c.self.inside.version part (run_map reads) =
+    subst (λ (it : ShardReads). HasValuesOf role.state it.version part (run_map reads)) (sym c.self.view_is)
     (has-values reads readable c.args.range.now c.requires.legal c.requires.served i role there part clipped) in
     c.into_vec.ensures
     ∙ (page (run_map reads) has).0
@@ -48,7 +48,7 @@ returns-in_ok-page-in-Some c = λ i there.
 
 pub returns-in-None : goal.returns-in-None
 returns-in-None c = λ i there.
-    let clipped : clipped_range c.args.range.now c.args.role.now.core.range ≡ None =
+    let clipped : clipped_range c.args.range.now c.args.role.now.state.range ≡ None =
     ap (clipped_range c.args.range.now) (sym c.range.ensures) ∙ sym c.in_ok-part.ensures.answers ∙ c.in-None.is in
     c.new.ensures.items
     ∙ sym (ap (first_of c.args.limit)

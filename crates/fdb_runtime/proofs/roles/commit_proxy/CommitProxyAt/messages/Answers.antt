@@ -7,5 +7,5 @@ pub returns-clause-sent : goal.returns-clause-sent
 returns-clause-sent g c =
     subst (λ (at : CommitProxyAtFront). IfOk c.messages.result (AreLastMessages g.B.ClusterName.config at.front))
     c.self.view_is
-    (sends-messages g.B.ClusterName.config c.self.inside.front c.self.inside.core.proxy c.messages.result
+    (sends-messages g.B.ClusterName.config c.self.inside.front c.self.inside.state.proxy c.messages.result
     c.self.invariant c.messages.ensures)

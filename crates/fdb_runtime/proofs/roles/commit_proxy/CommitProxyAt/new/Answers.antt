@@ -6,17 +6,17 @@ use Rattle.fdb_runtime.proofs.roles.commit_proxy.CommitProxyAt.new.Goals as goal
 
 pub returns : goal.returns
 returns g c =
-    let told = answers-fault (new_fault c.args.index c.args.config.now) c.in_ok-core.core _ c.in_ok-core.ensures in
-    let given = c.in_ok-core-2.ensures.given in
+    let told = answers-fault (new_fault c.args.index c.args.config.now) c.in_ok-state.state _ c.in_ok-state.ensures in
+    let given = c.in_ok-state-2.ensures.given in
     rw told.0 (
       rw given.1 at c.empty.ensures,
-      subst (λ (core : ProxyWithRoom). IsNewProxy c.args.index c.args.config.now core.proxy) (sym given.0) told.1,
+      subst (λ (state : ProxyWithRoom). IsNewProxy c.args.index c.args.config.now state.proxy) (sym given.0) told.1,
     )
 
 pub invariant_of-result : goal.invariant_of-result
 invariant_of-result g c =
-    let told = answers-fault (new_fault c.args.index c.args.config.now) c.in_ok-core.core _ c.in_ok-core.ensures in
-    let given = c.in_ok-core-2.ensures.given in
-    begins g.B.ClusterName.config c.args.config.now c.args.index c.in_ok-core-2.front c.in_ok-core-2.core.proxy
+    let told = answers-fault (new_fault c.args.index c.args.config.now) c.in_ok-state.state _ c.in_ok-state.ensures in
+    let given = c.in_ok-state-2.ensures.given in
+    begins g.B.ClusterName.config c.args.config.now c.args.index c.in_ok-state-2.front c.in_ok-state-2.state.proxy
     (rw given.1 at c.empty.ensures) c.requires
-    (subst (λ (core : ProxyWithRoom). IsNewProxy c.args.index c.args.config.now core.proxy) (sym given.0) told.1)
+    (subst (λ (state : ProxyWithRoom). IsNewProxy c.args.index c.args.config.now state.proxy) (sym given.0) told.1)

@@ -3,5 +3,5 @@ use Rattle.fdb_runtime.proofs.roles.commit_proxy.CommitProxyAt.seal.Goals as goa
 
 pub invariant_of-self : goal.invariant_of-self
 invariant_of-self g c =
-    seals-or-stays g.B.ClusterName.config c.self.inside.front c.self.inside.core c.seal.new.self c.seal.result
+    seals-or-stays g.B.ClusterName.config c.self.inside.front c.self.inside.state c.seal.new.self c.seal.result
     c.seal.ensures.answers c.seal.ensures.refused c.self.invariant

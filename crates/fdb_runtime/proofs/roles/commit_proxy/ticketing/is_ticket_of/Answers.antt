@@ -1,7 +1,7 @@
 use Rattle.std.proofs.Common.{◌∙◌, ◌-◌, sym, ap₂, ℕ, List, drop, arith}
 use Rattle.std.specs.Cmp.Lexicographic.{pointwise}
 use Rattle.fdb_sequencer.specs.Equality.{dated_eq}
-use Rattle.fdb_sequencer.specs.Moves.{Dated}
+use Rattle.fdb_sequencer.specs.declared.dated.Dated.{Dated}
 use Rattle.fdb_roles.specs.Entries.{dated_moves}
 use Rattle.fdb_runtime.proofs.TicketingLemmas.{by-moves, by-entry}
 use Rattle.fdb_runtime.proofs.roles.commit_proxy.ticketing.is_ticket_of.Goals as goal

@@ -15,8 +15,8 @@ push-requires g c = rises g.B.ClusterName.config _ c.message.invariant c.check_n
 
 pub invariant_of-self : goal.invariant_of-self
 invariant_of-self g c =
-    (log-stays g.B.ClusterName.config c.self.inside.front c.self.inside.core c.push.new.self
-    (push_fault c.self.inside.core c.message.inside.message) c.in_err-ack.ensures.refused
+    (log-stays g.B.ClusterName.config c.self.inside.front c.self.inside.state c.push.new.self
+    (push_fault c.self.inside.state c.message.inside.message) c.in_err-ack.ensures.refused
     c.in_err-ack.ensures.failed c.self.invariant).0
 
 pub returns-in_err-ack-clause-answers : goal.returns-in_err-ack-clause-answers
@@ -25,29 +25,29 @@ returns-in_err-ack-clause-answers g c =
     (λ _. HasOneMore c.self.inside.front c.message.inside.front) c.in_ok-check_next.ensures.answers in
     let left = err_from_is_err_and c.from_residual-in_err-ack.result c.from_residual-in_err-ack.ensures.1 in
     rw (left.1, left.2)
-    (refused-push (record { front = c.self.inside.front; core = c.self.inside.core }) c.args.self.now c.self.view_is
+    (refused-push (record { front = c.self.inside.front; state = c.self.inside.state }) c.args.self.now c.self.view_is
     (record { front = c.message.inside.front; message = c.message.inside.message }) c.args.message.now
     c.in_err-ack.field-0.0 c.message.view_is next.0 c.in_err-ack.ensures.answers)
 
 pub returns-in_err-ack-clause-refused : goal.returns-in_err-ack-clause-refused
 returns-in_err-ack-clause-refused g c =
     where-refused c.from_residual-in_err-ack.result _
-    (left-by-push (record { front = c.self.inside.front; core = c.self.inside.core }) c.args.self.now c.self.view_is
+    (left-by-push (record { front = c.self.inside.front; state = c.self.inside.state }) c.args.self.now c.self.view_is
     c.push.new.self
-    (log-stays g.B.ClusterName.config c.self.inside.front c.self.inside.core c.push.new.self
-    (push_fault c.self.inside.core c.message.inside.message) c.in_err-ack.ensures.refused
+    (log-stays g.B.ClusterName.config c.self.inside.front c.self.inside.state c.push.new.self
+    (push_fault c.self.inside.state c.message.inside.message) c.in_err-ack.ensures.refused
     c.in_err-ack.ensures.failed c.self.invariant).1)
 
 pub invariant_of-self-2 : goal.invariant_of-self-2
 invariant_of-self-2 g c =
     let config = g.B.ClusterName.config in
-    let core = c.self.inside.core in
+    let state = c.self.inside.state in
     let message = c.message.inside.message in
     let more = (given-fault (front_fault c.self.inside.front c.message.inside.front) _
     (λ _. HasOneMore c.self.inside.front c.message.inside.front) c.in_ok-check_next.ensures.answers).1 in
-    let took = answers-fault (push_fault core message) c.in_ok-ack.ack
-    (λ (ack : LogAck). ack ≡ record { log = core.log; index = message.index }) c.in_ok-ack.ensures.answers in
-    let own = takes-its-own core message took.0 in
+    let took = answers-fault (push_fault state message) c.in_ok-ack.ack
+    (λ (ack : LogAck). ack ≡ record { log = state.log; index = message.index }) c.in_ok-ack.ensures.answers in
+    let own = takes-its-own state message took.0 in
     subst (λ (front : List Entry). IsLogThere config front c.push.new.self) (sym c.in_ok-front.ensures)
-    (log-there config _ c.message.invariant c.check_next.ensures.entries c.self.inside.front more core
+    (log-there config _ c.message.invariant c.check_next.ensures.entries c.self.inside.front more state
     c.push.new.self (c.self.invariant.1 own.1) own.0 c.in_ok-ack.ensures.taken c.self.invariant.0)

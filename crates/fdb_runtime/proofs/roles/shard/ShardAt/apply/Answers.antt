@@ -3,7 +3,7 @@ use Rattle.fdb_keys.specs.declared.refusal.Refusal.{Refusal}
 use Rattle.fdb_storage.specs.Shards.{apply_fault}
 use Rattle.fdb_roles.proofs.Exports.{answers-fault, given-fault, hands-on}
 use Rattle.fdb_runtime.specs.ShardsAtFronts.{peek_fault}
-use Rattle.fdb_runtime.proofs.ShardLemmas.{takes, within, goes-on, has-gone-on, answers-on, failed-there, core-takes}
+use Rattle.fdb_runtime.proofs.ShardLemmas.{takes, within, goes-on, has-gone-on, answers-on, failed-there, state-takes}
 use Rattle.fdb_runtime.proofs.roles.shard.ShardAt.apply.Goals as goal
 
 pub cut-requires : goal.cut-requires
@@ -20,7 +20,7 @@ overflow_add-count g c =
     c.message.view_is c.self.invariant.1 c.message.invariant c.check_peek.ensures.entries
     c.in_ok-check_peek.ensures.answers in
     let few = within g.B.ClusterName.config _ _ took in
-    omega (arith, few, c.len.ensures, c.len-2.ensures, c.len-most.ensures, c.len-most.type_inv)
+    omega (arith, few, c.len.ensures, c.len-2.ensures, c.know_len.ensures)
 
 pub invariant_of-self : goal.invariant_of-self
 invariant_of-self g c =
@@ -28,7 +28,7 @@ invariant_of-self g c =
     c.message.view_is c.self.invariant.1 c.message.invariant c.check_peek.ensures.entries
     c.in_ok-check_peek.ensures.answers in
     let failed = c.in_err-apply.ensures.failed
-    (subst (λ (fault : Option Refusal). IsNone fault) (sym (core-takes g.B.ClusterName.config _ _ took)) refl) in (
+    (subst (λ (fault : Option Refusal). IsNone fault) (sym (state-takes g.B.ClusterName.config _ _ took)) refl) in (
       c.self.invariant.0 ∙ sym failed.tag,
       failed-there g.B.ClusterName.config c.self.inside.front c.self.inside.shard c.apply.new.self
           c.self.invariant.1.0 failed,
@@ -44,7 +44,7 @@ returns-in_err-apply-clause-answers g c =
     c.in_ok-check_peek.ensures.answers in
     rw same (hands-on c.in_err-apply.field-0.0 (apply_fault c.self.inside.shard c.message.inside.peek)
     (peek_fault c.args.self.now c.args.message.now) _ _
-    (core-takes g.B.ClusterName.config _ _ took ∙ sym none.0) c.in_err-apply.ensures.answers)
+    (state-takes g.B.ClusterName.config _ _ took ∙ sym none.0) c.in_err-apply.ensures.answers)
 
 pub invariant_of-self-2 : goal.invariant_of-self-2
 invariant_of-self-2 g c =

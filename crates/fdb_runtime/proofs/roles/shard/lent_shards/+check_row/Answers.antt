@@ -13,7 +13,7 @@ returns-in_err-check_next-in-len1-up g t c =
     let same : c.from_residual.result ≡ Err why = search rules in
     rw same (subst (λ (shards : List ShardAtFront).
     AnswersExactly {T = Unit {0}} (Err why) (row_fault c.args.version c.args.until.now c.args.from.now shards) (λ _. ⊤))
-    (sym (lent-first c.args.kept.now c.first-item.result c.in-len1-up.len_at_least c.first-item.is))
+    (sym (lent-first c.args.shards.now c.first-item.result c.in-len1-up.len_at_least c.first-item.is))
     (has-own (next_fault c.args.version c.args.from.now at) _ why _ _ c.in_err-check_next-in-len1-up.ensures))
 
 pub returns-in_ok-check_next-in-len1-up : goal.returns-in_ok-check_next-in-len1-up
@@ -23,6 +23,6 @@ returns-in_ok-check_next-in-len1-up g t c =
     subst (λ (shards : List ShardAtFront).
     AnswersExactly {T = Unit {0}} c.check_row.result (row_fault c.args.version c.args.until.now c.args.from.now shards)
     (λ _. ⊤))
-    (sym (lent-first c.args.kept.now c.first-item.result c.in-len1-up.len_at_least c.first-item.is))
+    (sym (lent-first c.args.shards.now c.first-item.result c.in-len1-up.len_at_least c.first-item.is))
     (has-next (next_fault c.args.version c.args.from.now at) _ c.in_ok-check_next-in-len1-up.field-0 c.check_row.result
     _ _ c.in_ok-check_next-in-len1-up.ensures (rw end at c.check_row.ensures))

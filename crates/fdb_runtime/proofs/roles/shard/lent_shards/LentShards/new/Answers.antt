@@ -8,7 +8,7 @@ use Rattle.fdb_runtime.proofs.roles.shard.lent_shards.LentShards.new.Goals as go
 
 pub invariant_of-result : goal.invariant_of-result
 invariant_of-result g c =
-    let shards = lent_shards c.args.kept.now in
+    let shards = lent_shards c.args.shards.now in
     let version = c.args.reader.version in
     let range = c.args.range.now in
     let gave = given-fault (row_fault c.version.result c.end.result.now c.row_begin.result.now shards)

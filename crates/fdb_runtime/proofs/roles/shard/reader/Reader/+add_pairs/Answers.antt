@@ -13,7 +13,7 @@ use Rattle.fdb_runtime.proofs.roles.shard.reader.Reader.+add_pairs.Goals as goal
 
 -- what is lent behind the first shard
 abbrev others_of : List (Bor ShardAtFront) → List ShardAtFront
-others_of kept = lent_shards (take (length kept - 1) (drop 1 kept))
+others_of shards = lent_shards (take (length shards - 1) (drop 1 shards))
 
 pub returns-in_default : goal.returns-in_default
 returns-in_default g t c =
@@ -21,7 +21,7 @@ returns-in_default g t c =
     let pairs = c.args.pairs.now.items in
     few-are-first c.args.wanted pairs c.requires.few
     ∙ ap (λ (none : List (Point × List ℕ)). first_of c.args.wanted (pairs ++ none)) (sym
-    (none-held c.args.kept.now c.in_default.len_below
+    (none-held c.args.shards.now c.in_default.len_below
     (run_of g.B.ClusterName.config reader.version reader.front.now) c.args.range.now c.args.reverse))
 
 pub returns-then-reverse : goal.returns-then-reverse
@@ -32,10 +32,10 @@ returns-then-reverse g t c =
     let pairs = c.args.pairs.now.items in
     let run : Map = run_of g.B.ClusterName.config reader.version reader.front.now in
     let at = c.first-item.result.now in
-    let others = others_of c.args.kept.now in
+    let others = others_of c.args.shards.now in
     let backward : reverse ≡ true = search rules in
-    let held = held-backward run range reader.version (lent_shards c.args.kept.now) at others
-    (lent-first c.args.kept.now c.first-item.result c.in-len1-up.len_at_least c.first-item.is) c.requires.row reverse
+    let held = held-backward run range reader.version (lent_shards c.args.shards.now) at others
+    (lent-first c.args.shards.now c.first-item.result c.in-len1-up.len_at_least c.first-item.is) c.requires.row reverse
     backward in
     answers-by c.add_pairs_of.result None None _ _ refl
     (λ _ done added.
@@ -52,10 +52,10 @@ returns g t c =
     let pairs = c.args.pairs.now.items in
     let run : Map = run_of g.B.ClusterName.config reader.version reader.front.now in
     let at = c.first-item.result.now in
-    let others = others_of c.args.kept.now in
+    let others = others_of c.args.shards.now in
     let forward : reverse ≡ false = search rules in
-    let held = held-forward run range reader.version (lent_shards c.args.kept.now) at others
-    (lent-first c.args.kept.now c.first-item.result c.in-len1-up.len_at_least c.first-item.is) c.requires.row reverse
+    let held = held-forward run range reader.version (lent_shards c.args.shards.now) at others
+    (lent-first c.args.shards.now c.first-item.result c.in-len1-up.len_at_least c.first-item.is) c.requires.row reverse
     forward in
     answers-by c.add_pairs-2.result None None _ _ refl
     (λ _ done added.

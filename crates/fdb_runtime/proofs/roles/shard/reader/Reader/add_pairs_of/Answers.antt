@@ -17,4 +17,4 @@ returns-in_ok-append g c =
     ∙ ap (λ (more : List (Point × List ℕ)). pairs ++ more) c.in_ok-pairs_of.ensures
     ∙ first-left c.args.wanted pairs
     (pairs_at (run_of g.B.ClusterName.config reader.version reader.front.now) c.args.range.now c.args.reverse
-    c.args.kept.now) c.in-Some.limit left
+    c.args.at.now) c.in-Some.limit left

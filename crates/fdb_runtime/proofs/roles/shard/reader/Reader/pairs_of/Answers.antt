@@ -9,7 +9,7 @@ use Rattle.fdb_runtime.proofs.roles.shard.reader.Reader.pairs_of.Goals as goal
 
 pub returns-in-Some : goal.returns-in-Some
 returns-in-Some g c =
-    let shard = c.args.kept.now.shard in
+    let shard = c.args.at.now.shard in
     let range = c.args.range.now in
     let part = c.in-Some.part in
     let view = c.new-view.result in
@@ -30,7 +30,7 @@ returns-in-Some g c =
 
 pub returns-in-None : goal.returns-in-None
 returns-in-None g c =
-    let shard = c.args.kept.now.shard in
+    let shard = c.args.at.now.shard in
     let range = c.args.range.now in
     let clipped : clipped_range range shard.range ≡ None =
     ap (clipped_range range) (sym c.range.ensures) ∙ sym c.in_ok-part.ensures.answers ∙ c.in-None.is in

@@ -1,0 +1,79 @@
+-- Entries that follow on one another, tested one after another.
+use Rattle.std.proofs.Common.{◌≡◌, sym, ap, subst, ◌↔◌, ℕ, zero, suc, ◌<◌, ◌≤◌, arith, List, [], ◌∷◌, drop, length}
+use Rattle.std.proofs.Common.{Some, slice_get}
+use Rattle.std.proofs.lemmas.List.Elements.{All-from_recursion, recursion_from_All}
+use Rattle.fdb_keys.proofs.Exports.{all-weaken}
+use Rattle.fdb_txn.specs.declared.entry.Entry.{Entry}
+use Rattle.fdb_txn.specs.declared.entry.Move.{Move}
+use Rattle.fdb_txn.specs.book.Transactions.{Transaction, NamesWrites}
+use Rattle.fdb_txn.specs.book.History.{AreEntries, IsSealed}
+use Rattle.fdb_roles.specs.Judging.{MayFollow}
+use Rattle.fdb_roles.proofs.Exports.{all-both}
+
+-- what is left of a list before an item of it
+drop-next : {A : Type 0} (xs : List A) (i : ℕ) (x : A) → slice_get xs i ≡ Some x → drop i xs ≡ x ∷ drop (suc i) xs
+drop-next [] i x there = cc
+drop-next (y ∷ ys) zero x there = let same : y ≡ x = cc in ap (λ z. z ∷ ys) same
+drop-next (y ∷ ys) (suc i) x there = drop-next ys i x there
+
+module _ (resolvers : ℕ) where
+  -- the first of entries that follow on a version may stand after one of that version
+  may-stand : (last : ℕ) (entry : Entry) (others : List Entry) → AreEntries resolvers last (entry ∷ others)
+      → MayFollow last resolvers entry
+  may-stand last entry others entries = record {
+    later = entries.0;
+    linked = entries.1;
+    moves = All-from_recursion (λ (move : Move). move.to < resolvers) entry.moves entries.2;
+    reads = All-from_recursion (λ (t : Transaction). t.read < entry.version) entry.batch
+        (all-weaken (λ (t : Transaction). (t.read < entry.version) × NamesWrites t)
+        (λ (t : Transaction). t.read < entry.version) (λ (t : Transaction) may. may.0) entry.batch entries.3);
+  }
+
+  -- a sealed one that may stand there goes before what follows on it
+  stands-before : (last : ℕ) (entry : Entry) (others : List Entry) → IsSealed entry → MayFollow last resolvers entry
+      → AreEntries resolvers entry.version others → AreEntries resolvers last (entry ∷ others)
+  stands-before last entry others sealed may entries = (
+    may.later,
+    may.linked,
+    recursion_from_All (λ (move : Move). move.to < resolvers) entry.moves may.moves,
+    all-both (λ (t : Transaction). t.read < entry.version) NamesWrites
+        (λ (t : Transaction). (t.read < entry.version) × NamesWrites t) (λ t below names. (below, names)) entry.batch
+        (recursion_from_All (λ (t : Transaction). t.read < entry.version) entry.batch may.reads) sealed,
+    entries,
+  )
+
+  -- all entries follow just where those from one on do, on the version before
+  abbrev pub FollowFrom : List Entry → ℕ → ℕ → Type 0
+  FollowFrom book i last = AreEntries resolvers 0 book ↔ AreEntries resolvers last (drop i book)
+
+  pub follow-first : (book : List Entry) → FollowFrom book 0 0
+  follow-first [] = (λ entries. tt, λ entries. tt)
+  follow-first (entry ∷ book) = (λ entries. entries, λ entries. entries)
+
+  module _ (book : List Entry) (i last : ℕ) (entry : Entry) (there : slice_get book i ≡ Some entry)
+      (so_far : FollowFrom book i last) where
+    here : drop i book ≡ entry ∷ drop (suc i) book
+    here = drop-next book i entry there
+
+    pub follow-next : IsSealed entry → MayFollow last resolvers entry → FollowFrom book (suc i) entry.version
+    follow-next sealed may = (
+      λ entries. (subst (AreEntries resolvers last) here (so_far.0 entries)).4,
+      λ entries. so_far.1 (subst (AreEntries resolvers last) (sym here)
+          (stands-before last entry (drop (suc i) book) sealed may entries)),
+    )
+
+    -- where one can't stand, they don't follow
+    pub follows-there : AreEntries resolvers 0 book → MayFollow last resolvers entry
+    follows-there entries = may-stand last entry (drop (suc i) book)
+        (subst (AreEntries resolvers last) here (so_far.0 entries))
+
+  -- at the end of the book they do
+  pub follow-all : (book : List Entry) (i last : ℕ) → length book ≤ i → FollowFrom book i last
+      → AreEntries resolvers 0 book
+  follow-all book i last all so_far = so_far.1 (ended book i all)
+    where
+      ended : (rest : List Entry) (n : ℕ) → length rest ≤ n → AreEntries resolvers last (drop n rest)
+      ended [] zero all = tt
+      ended [] (suc n) all = tt
+      ended (entry ∷ rest) zero all = absurd (omega (arith, all))
+      ended (entry ∷ rest) (suc n) all = ended rest n (omega (arith, all))

@@ -1,0 +1,11 @@
+use fdb_keys::Items;
+use fdb_txn::Move;
+
+/// The moves that take effect at a version.
+#[derive(Drop, PartialEq, Eq)]
+pub struct Dated {
+    /// The version, which is that of an entry.
+    pub version: u64,
+    /// The moves, the earliest one first.
+    pub moves: Items<Move>,
+}
