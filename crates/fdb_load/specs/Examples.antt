@@ -1,8 +1,11 @@
--- Sums, rings and what workloads leave, computed.
-use Rattle.std.specs.Prelude.{◌≡◌, ℕ, List, [], ◌∷◌, replicate, codes, Some, None}
+-- Sums, rings, places and what workloads leave, computed.
+use Rattle.std.specs.Prelude.{◌≡◌, ℕ, true, false, List, [], ◌∷◌, replicate, codes, Some, None}
 use Rattle.fdb_keys.specs.Points.{Point}
+use Rattle.fdb_txn.specs.declared.spot.Spot.TheVariants as spot
+use Rattle.fdb_load.specs.declared.run.Place.{Place}
 use Rattle.fdb_load.specs.declared.workload.Workload.TheVariants.{Ring, Transfers, Counters}
 use Rattle.fdb_load.specs.Rings.{value_at, next_name, name_after, IsBackAfter}
+use Rattle.fdb_load.specs.Runs.{is_before, spot_places}
 use Rattle.fdb_load.specs.Sums.{told_sum}
 use Rattle.fdb_load.specs.Workloads.{AreLeft}
 
@@ -72,3 +75,18 @@ WorkedWorkloads =
     × (AreLeft Counters (small 1 ∷ small 2 ∷ small 3 ∷ small 4 ∷ []) 10)
     × (¬ AreLeft Counters (small 1 ∷ small 2 ∷ small 3 ∷ small 4 ∷ []) 9)
     × (¬ AreLeft Counters (small 1 ∷ small 2 ∷ small 7 ∷ []) 10)
+
+-- the place of an entry, each by its number
+abbrev pub numbered : ℕ → ℕ → Place
+numbered entry position = record { index = entry; place = position }
+
+-- Which places are before others, and where spots are.
+abbrev pub WorkedPlaces : Type 0
+WorkedPlaces =
+    (is_before (numbered 0 1) (numbered 1 0) ≡ true)
+    × (is_before (numbered 1 0) (numbered 1 1) ≡ true)
+    × (is_before (numbered 1 1) (numbered 1 1) ≡ false)
+    × (is_before (numbered 1 1) (numbered 1 0) ≡ false)
+    × (is_before (numbered 1 0) (numbered 0 1) ≡ false)
+    × (spot_places (spot.Entry 3 2 7000) ≡ numbered 3 2 ∷ [])
+    × (spot_places (spot.ReadOnly 7000) ≡ [])

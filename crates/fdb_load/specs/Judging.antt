@@ -1,16 +1,56 @@
 -- When a run was right.
-use Rattle.std.specs.Prelude.{◌≡◌, ◌+◌, ℕ, List}
+use Rattle.std.specs.Prelude.{◌≡◌, ◌≤◌, ◌+◌, ◌-◌, ◌++◌, ℕ, List, length, true, false, Some, All, IsTrue}
 use Rattle.std.specs.List.{AllByRecursion}
+use Rattle.std.specs.List.Sorted.{IsPermutation}
 use Rattle.fdb_keys.specs.Points.{Point}
+use Rattle.fdb_mutations.specs.Pairs.{pairs_in}
+use Rattle.fdb_txn.specs.book.Book.{Place as BookPlace}
+use Rattle.fdb_txn.specs.book.Places.{place_at}
 use Rattle.fdb_txn.specs.declared.entry.Entry.{Entry}
+use Rattle.fdb_txn.specs.declared.spot.Spot.{Spot}
+use Rattle.fdb_txn.specs.rules.Admission.{committed}
 use Rattle.fdb_roles.specs.declared.placed.Placed.{Placed}
 use Rattle.fdb_roles.specs.Spots.{IsSerialized}
+use Rattle.fdb_load.specs.declared.judging.Asked.{Asked}
 use Rattle.fdb_load.specs.declared.report.Report.{Report}
+use Rattle.fdb_load.specs.declared.run.Place.{Place}
+use Rattle.fdb_load.specs.declared.workload.Workload.{Workload}
+use Rattle.fdb_load.specs.Reports.{IsTakenUp}
+use Rattle.fdb_load.specs.Runs.{AreRising, every_key, have_places, receipt_places, run_of, spot_places}
+use Rattle.fdb_load.specs.Workloads.{AreLeft}
 
--- Each try was told of, and each transaction with a receipt is serialized where that says among the entries, and was
--- counted.
+-- Each try was told of, they were taken up, and each transaction with a receipt is serialized where that says among the
+-- entries, and was counted.
 abbrev pub IsSerial : List Point → List Entry → List Placed → ℕ → Report → Type 0
 IsSerial splits entries placed txns report =
     (report.acknowledged + report.aborted + report.unknown ≡ txns)
     × (report.checked ≡ report.acknowledged)
+    × IsTakenUp txns report
     × AllByRecursion (IsSerialized splits entries) placed
+
+-- The place is in an entry of a version up to this one, and its transaction is committed.
+abbrev pub IsCommittedBy : List Point → List Entry → ℕ → Place → Type 0
+IsCommittedBy splits entries version place =
+    (there : BookPlace × List BookPlace) × (place_at entries place.index place.place ≡ Some there)
+    × (there.0.version ≤ version) × (committed splits there.1 there.0 ≡ true)
+
+-- They are the places of the first transaction and of those with a receipt, and of others that are committed by the
+-- version, in some order.
+abbrev pub ArePlacesOf : List Point → List Entry → ℕ → Spot → List Placed → List Place → Type 0
+ArePlacesOf splits entries version first placed places =
+    (others : List Place) × All (IsCommittedBy splits entries version) others
+    × IsPermutation ((spot_places first ++ receipt_places placed) ++ others) places
+
+-- Each of the places is there once, in the order of the book, their run leaves the pairs, and these are such as the
+-- workload leaves of as many transactions, but for the first one.
+abbrev pub IsRunOf : List Entry → Workload → List (Point × List ℕ) → List Place → Type 0
+IsRunOf entries workload pairs places =
+    AreRising places × IsTrue (have_places entries places)
+    × (pairs ≡ pairs_in (run_of entries places) every_key false)
+    × AreLeft workload pairs (length places - 1)
+
+-- The pairs are those that the transactions at such places leave, run one at a time.
+abbrev pub ArePairsOf : List Point → List Entry → ℕ → Asked → List Placed → List (Point × List ℕ) → Type 0
+ArePairsOf splits entries version asked placed pairs =
+    (places : List Place) × ArePlacesOf splits entries version asked.first placed places
+    × IsRunOf entries asked.workload pairs places

@@ -1,5 +1,5 @@
 -- What a run prints, and the status that it ends with.
-use Rattle.std.specs.Prelude.{◌≡◌, ◌+◌, ◌*◌, ℕ, List, true, codes, Some, ◌⊎◌, if◌then◌else◌}
+use Rattle.std.specs.Prelude.{◌≡◌, ◌<◌, ◌+◌, ◌*◌, ℕ, List, true, codes, Some, ◌⊎◌, if◌then◌else◌}
 use Rattle.serde_json.specs.Data.{Data, Members, number, unsigned, string, boolean, object, member, no_members}
 use Rattle.serde_json.specs.Written.{compact_text}
 use Rattle.fdb_print.specs.declared.stop.Stop.{Stop}
@@ -34,9 +34,14 @@ abbrev pub AreAllTold : ℕ → Report → Type 0
 AreAllTold tries report =
     (report.acknowledged + report.aborted + report.unknown ≡ tries) × (report.checked ≡ report.acknowledged)
 
--- It is a report of so many tries of the workload: where all checks held, of all of them.
+-- Where there were tries, one was acknowledged, and where none of them read anything, none was turned down.
+abbrev pub IsTakenUp : ℕ → Report → Type 0
+IsTakenUp tries report = (0 < tries → 0 < report.acknowledged) × (report.workload ≡ Counters → report.aborted ≡ 0)
+
+-- It is a report of so many tries of the workload: where all checks held, of all of them, which were taken up.
 abbrev pub IsReportOf : Workload → ℕ → Report → Type 0
-IsReportOf workload tries report = (report.workload ≡ workload) × (report.ok ≡ true → AreAllTold tries report)
+IsReportOf workload tries report =
+    (report.workload ≡ workload) × (report.ok ≡ true → AreAllTold tries report × IsTakenUp tries report)
 
 -- the report is printed, and the status says whether all checks held
 abbrev pub PrintsReport : Report → List ℕ → ℕ → Type 0

@@ -1,6 +1,7 @@
 -- The run of transactions at some places of a book, one at a time.
-use Rattle.std.specs.Prelude.{Bool, List, [], ◌∷◌, Option, Some, None, option_and_then, is_some}
-use Rattle.std.specs.List.{slice_get, list_all}
+use Rattle.std.specs.Prelude.{◌≡◌, ◌==◌, ◌&&◌, ◌||◌, Bool, true, nat_lt, List, [], ◌∷◌, length}
+use Rattle.std.specs.Prelude.{Option, Some, None, option_and_then, is_some}
+use Rattle.std.specs.List.{slice_get, list_all, flat_map, AllAdjacentBelow}
 use Rattle.std.specs.FinMap.{empty}
 use Rattle.fdb_keys.specs.Ranges.{Range}
 use Rattle.fdb_mutations.specs.Maps.{Map}
@@ -8,6 +9,9 @@ use Rattle.fdb_mutations.specs.Mutations.{effects}
 use Rattle.fdb_mutations.specs.declared.mutation.Mutation.{Mutation}
 use Rattle.fdb_txn.specs.book.Transactions.{Transaction}
 use Rattle.fdb_txn.specs.declared.entry.Entry.{Entry}
+use Rattle.fdb_txn.specs.declared.spot.Spot.{Spot}
+use Rattle.fdb_txn.specs.declared.spot.Spot.TheVariants as spot
+use Rattle.fdb_roles.specs.declared.placed.Placed.{Placed}
 use Rattle.fdb_load.specs.declared.run.Place.{Place}
 
 -- the transaction at a place, if there is such a place
@@ -35,3 +39,21 @@ have_places entries places = list_all (λ place. is_some (txn_at entries place))
 -- the range that has every key
 abbrev pub every_key : Range
 every_key = record { begin = []; end = 255 ∷ [] }
+
+-- the place of a spot, if it is in an entry
+abbrev pub spot_places : Spot → List Place
+spot_places (spot.Entry index place version) = (record { index = index; place = place }) ∷ []
+spot_places (spot.ReadOnly version) = []
+
+-- the places of transactions with a receipt
+abbrev pub receipt_places : List Placed → List Place
+receipt_places placed = flat_map (λ (receipt : Placed). spot_places receipt.spot) placed
+
+-- the place is in an earlier entry, or earlier in the same one
+abbrev pub is_before : Place → Place → Bool
+is_before place next =
+    nat_lt place.index next.index || (place.index == next.index && nat_lt place.place next.place)
+
+-- each place is before the next one, so they are in the order of the book, and no two are one
+abbrev pub AreRising : List Place → Type 0
+AreRising places = AllAdjacentBelow (λ place next. true ≡ is_before place next) places (length places)

@@ -1,15 +1,19 @@
 // The run of committed transactions, one at a time, over a plain map.
-ghost use Rattle.std.specs.Prelude.{◌≡◌, ◌↔◌, IsTrue, None, false};
+ghost use Rattle.std.specs.Prelude.{◌≡◌, ◌↔◌, ◌++◌, IsTrue, None, false, OnOk, IfErr};
+ghost use Rattle.std.specs.Bool.{Decides};
 ghost use Rattle.std.specs.Option.{option_copied};
 ghost use Rattle.fdb_keys.specs.Answers.{Answers};
+ghost use Rattle.fdb_keys.specs.declared.refusal.Refusal.TheVariants.{NoMemory};
 ghost use Rattle.fdb_mutations.specs.Mutations.{effects};
 ghost use Rattle.fdb_mutations.specs.Pairs.{pairs_in};
 ghost use Rattle.fdb_load.specs.Runs.{txn_at, mutations_of, run_from, run_of, have_places, every_key};
+ghost use Rattle.fdb_load.specs.Runs.{AreRising, is_before, receipt_places, spot_places};
 
 use bytes::Bytes;
 use fdb_keys::{Key, KeyRange, Refusal};
 use fdb_mutations::{Mutation, PlainMap};
-use fdb_runtime::TxnId;
+use fdb_roles::Placed;
+use fdb_runtime::{Spot, TxnId};
 use fdb_txn::{Entry, Sealed};
 use std::alloc::Global;
 
@@ -21,11 +25,42 @@ pub(crate) struct Place {
 }
 
 /// Whether each place is behind the one before it.
-pub(crate) fn rising(places: &[Place]) -> bool {
-    places
-        .iter()
-        .zip(places.iter().skip(1))
-        .all(|(one, next)| one < next)
+pub(crate) fn rising(places: &[Place]) -> bool
+    ensures { Decides result (AreRising places.now) }
+{
+    places.is_sorted_by(
+        |place: &Place, next: &Place| -> bool
+            ensures { result ≡ is_before place.now next.now }
+        { is_before(*place, *next) },
+    )
+}
+
+fn is_before(place: Place, next: Place) -> bool
+    ensures { result ≡ is_before place next }
+{
+    place.index < next.index || (place.index == next.index && place.place < next.place)
+}
+
+/// Adds the places of the transactions with a receipt, behind those that are there. Refused only as `NoMemory`.
+pub(crate) fn push_receipts(places: &mut Vec<Place>, placed: &[Placed]) -> Result<(), Refusal>
+    ensures items { OnOk result (places.new.items ≡ places.old.items ++ receipt_places placed.now) }
+    ensures err { IfErr result (λ why. why ≡ NoMemory) }
+{
+    for receipt in placed {
+        push_spot(places, receipt.spot)?;
+    }
+    Ok(())
+}
+
+/// Adds the place of the spot, if it is in an entry. Refused only as `NoMemory`.
+pub(crate) fn push_spot(places: &mut Vec<Place>, spot: Spot) -> Result<(), Refusal>
+    ensures items { OnOk result (places.new.items ≡ places.old.items ++ spot_places spot) }
+    ensures err { IfErr result (λ why. why ≡ NoMemory) }
+{
+    if let Spot::Entry { index, place, .. } = spot {
+        places.push(Place { index, place })?;
+    }
+    Ok(())
 }
 
 /// The place of the transaction with the id, and the version of its entry. It takes O(n) time for n transactions.

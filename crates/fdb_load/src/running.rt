@@ -314,6 +314,7 @@ fn judge_kept<B: ClusterName>(
     let kept = Kept {
         config,
         entries: entries.as_slice(),
+        committed: record.committed(),
         pairs: record.pairs(),
     };
     judge(alloc, asked, played, &kept)

@@ -4,6 +4,8 @@
 #[cfg(test)]
 mod asserting;
 #[cfg(test)]
+mod clients;
+#[cfg(test)]
 mod closings;
 #[cfg(test)]
 mod commits;
@@ -22,4 +24,8 @@ mod running;
 #[cfg(test)]
 mod sessions;
 #[cfg(test)]
+mod sizes;
+#[cfg(test)]
 mod transfers;
+#[cfg(test)]
+mod windows;

@@ -4,8 +4,8 @@ ghost use Rattle.std.specs.Prelude.{◌≡◌};
 use crate::asserting::same;
 use crate::running::{Done, Host, Named, move_keys, put};
 use fdb_book::Blank;
-use fdb_keys::Refusal;
-use fdb_making::{coded, count_config, keys_of};
+use fdb_keys::{KeyRange, Refusal};
+use fdb_making::{code_of, coded, count_config, keys_of};
 use fdb_runtime::{ClusterName, Config, Database, NoGate, Record, Session};
 use fdb_txn::{Entry, Move};
 use std::alloc::Global;
@@ -106,5 +106,51 @@ fn moves_stand_in_the_book_with_the_next_entry(rt: HostRuntime) -> Result<(), Fa
     config.resolver_splits = keys_of(alloc, &[b"f", b"p"])?;
     let blank = Blank::new(alloc, 10)?;
     run_moves::<Brand, HostRuntime>(&rt, alloc, blank, &config)?;
+    Ok(())
+}
+
+// How many moves a database takes.
+const MOVE_LIMIT: u32 = 65_536;
+
+// Hands the same keys to one of two resolvers and to the other one, as often as it may be done.
+fn move_all<B: Named, R: Host>(rt: &R, alloc: Global, database: &Database<B>) -> Done {
+    let range = KeyRange::new(alloc, b"c", b"q")?;
+    for number in 0..MOVE_LIMIT {
+        database.move_range(rt, &range, number % 2)?;
+    }
+    Ok(())
+}
+
+// The codes of two more moves, and of one to a resolver that there isn't.
+fn move_more<B: Named, R: Host>(rt: &R, alloc: Global, database: &Database<B>) -> [u32; 3] {
+    [
+        code_of(move_keys(rt, alloc, database, b"c", b"q", 0)),
+        code_of(move_keys(rt, alloc, database, b"x", b"y", 1)),
+        code_of(move_keys(rt, alloc, database, b"c", b"q", 2)),
+    ]
+}
+
+fn fill_moves<B: Named, R: Host>(rt: &R, alloc: Global, blank: Blank, config: &Config) -> Done
+    requires cells { blank ≡ B.cells }
+    requires config { config.now ≡ B.config }
+{
+    let gate = Arc::new(alloc, NoGate)?;
+    let database: Database<B> = Database::start(rt, alloc, blank, config, 100, &gate)?;
+    let moved = coded(move_all(rt, alloc, &database));
+    let codes = move_more(rt, alloc, &database);
+    let record = database.close(rt);
+    same(rt, (moved, codes), (Ok(()), [9012, 9012, 9009]));
+    same(rt, record.is_ok(), true);
+    drop(record);
+    Ok(())
+}
+
+#[test]
+fn moves_are_refused_once_there_are_too_many(rt: HostRuntime) -> Result<(), Fail> {
+    let alloc = rt.alloc();
+    let mut config = count_config(alloc, 1, 1, 10);
+    config.resolver_splits = keys_of(alloc, &[b"m"])?;
+    let blank = Blank::new(alloc, 10)?;
+    fill_moves::<Brand, HostRuntime>(&rt, alloc, blank, &config)?;
     Ok(())
 }

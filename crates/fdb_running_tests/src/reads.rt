@@ -279,9 +279,9 @@ fn ranges_are_read_over_three_shards(rt: HostRuntime) -> Result<(), Fail> {
     Ok(())
 }
 
-// What a transaction does with the key d, or with all keys from a to y.
+/// What a transaction does with the key d, or with all keys from a to y.
 #[derive(Clone, Copy)]
-enum Touch {
+pub(crate) enum Touch {
     Get,
     SnapshotGet,
     Range,
@@ -301,7 +301,8 @@ fn answered<T: Drop>(answer: Result<T, Refusal>) -> Done {
     }
 }
 
-fn touch_keys<B: ClusterName, R: Wait>(
+/// The transaction does so, whatever it is answered.
+pub(crate) fn touch_keys<B: ClusterName, R: Wait>(
     rt: &R,
     alloc: Global,
     session: &mut Session<B>,

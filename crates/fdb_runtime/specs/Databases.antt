@@ -8,7 +8,7 @@ use Rattle.fdb_keys.specs.declared.refusal.Refusal.TheVariants.{BadConfig, Exhau
 use Rattle.fdb_proxy.specs.declared.config.Config.{Config}
 use Rattle.fdb_proxy.specs.Configs.{config_fault}
 use Rattle.fdb_txn.specs.declared.entry.Move.{Move}
-use Rattle.fdb_runtime.specs.Sessions.{Session}
+use Rattle.fdb_sections.specs.Sessions.{Session}
 
 -- why no database starts on cells for so many entries: these are others than the configuration asks for, or it isn't
 -- legal

@@ -1,17 +1,1 @@
-pub mod CommitProxiesAtFronts
 pub mod Databases
-pub mod Endings
-pub mod Issuing
-pub mod LentShards
-pub mod Messages
-pub mod Reading
-pub mod Receipts
-pub mod Records
-pub mod RolesAtFronts
-pub mod Sessions
-pub mod ShardViews
-pub mod ShardsAtFronts
-pub mod Ticketing
-pub mod Turns
-pub mod Commits
-pub mod Waiting

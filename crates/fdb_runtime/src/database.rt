@@ -6,20 +6,16 @@ ghost use Rattle.fdb_runtime.specs.Databases.{start_fault, session_fault, new_se
 ghost use Rattle.fdb_runtime.specs.Databases.{AnswersMove, is_bad_move};
 
 use crate::gate::Gate;
-use crate::messages::grant_message::GrantMessage;
-use crate::name::ClusterName;
-use crate::record::{Record, every_key};
-use crate::roles::shard::lent_shards::LentShards;
-use crate::roles::shard::reader::Reader;
 use crate::session::Session;
 use crate::shared::Shared;
-use crate::shared::shard::{ShardState, hold_all, lent_of};
+use crate::shared::shard::{hold_all, lent_of};
 use crate::threads::gated::Gated;
 use crate::threads::team::Team;
 use crate::threads::workers::Workers;
 use fdb_book::{Blank, Book};
 use fdb_keys::{KeyRange, Refusal};
 use fdb_proxy::Config;
+use fdb_sections::{ClusterName, GrantMessage, Record, ShardState};
 use fdb_txn::Move;
 use std::alloc::Global;
 use std::marker::Model;
@@ -213,20 +209,16 @@ fn record_at<B: ClusterName, R: Wait>(
     shared: &Shared<B>,
     granted: &GrantMessage<B>,
 ) -> Result<Record<B>, Refusal> {
-    let range = every_key(shared.alloc)?;
     let held = hold_all(rt, shared.alloc, shared.shards())?;
-    record_held(shared.alloc, granted, &range, held.as_slice())
+    record_held(shared.alloc, granted, held.as_slice())
 }
 
-// What the shards have of the range, which is that of every key.
+// The same of the shards whose locks are held.
 fn record_held<B: ClusterName>(
     alloc: Global,
     granted: &GrantMessage<B>,
-    range: &KeyRange,
     held: &[MutexGuard<'_, ShardState<B>>],
 ) -> Result<Record<B>, Refusal> {
     let shards = lent_of(alloc, held)?;
-    let reader = Reader::new(alloc, granted.committed, &granted.front);
-    let lent = LentShards::new(reader, range, shards.as_slice())?;
-    Record::of(&lent)
+    Record::at(alloc, granted, shards.as_slice())
 }

@@ -1,18 +1,10 @@
-//! The roles of the transaction system, each with what it has seen of a book that they share: what the locks and the
-//! threads of a running database are to hold.
+//! A running database: its threads, its locks and channels, and sessions as users see them, around the roles of
+//! `fdb_sections`.
 #![tactic(auto)]
 
 mod database;
 mod gate;
-mod known_front;
-mod making;
-mod messages;
-mod name;
-mod receipt;
-mod record;
-mod roles;
 mod session;
-mod session_state;
 mod shared;
 mod threads;
 
@@ -23,9 +15,7 @@ pub use fdb_keys::{Items, Key, KeyRange, Refusal, Refused};
 pub use fdb_mutations::Mutation;
 pub use fdb_proxy::Config;
 pub use fdb_roles::Placed;
+pub use fdb_sections::{ClusterName, Receipt, Record};
 pub use fdb_txn::{Entry, Spot, TxnId};
 pub use gate::{Gate, NoGate, Role};
-pub use name::ClusterName;
-pub use receipt::Receipt;
-pub use record::Record;
 pub use session::Session;

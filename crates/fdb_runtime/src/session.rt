@@ -1,4 +1,4 @@
-ghost use Rattle.std.specs.Prelude.{◌≡◌, ◌≤◌, [], suc, None, Some, Err, IfOk, IfErr, OnOk, OnErr};
+ghost use Rattle.std.specs.Prelude.{◌≡◌, ◌≤◌, true, [], suc, None, Some, Err, IfOk, IfErr, OnOk, OnErr};
 ghost use Rattle.fdb_keys.specs.declared.refusal.Refusal.TheVariants.{NoTransaction};
 ghost use Rattle.fdb_book.specs.Fronts.{IsPrefix};
 ghost use Rattle.fdb_keys.specs.Answers.{Answers};
@@ -9,30 +9,49 @@ ghost use Rattle.fdb_client.specs.TxnState.{with_op};
 ghost use Rattle.fdb_client.specs.declared.program.Op.TheVariants as operation;
 ghost use Rattle.fdb_client.specs.declared.program.Reply.TheVariants as answer;
 ghost use Rattle.fdb_roles.specs.Sessions.{OfOpen};
-ghost use Rattle.fdb_runtime.specs.Commits.{CommitAnswers};
-ghost use Rattle.fdb_runtime.specs.Reading.{HasRead};
-ghost use Rattle.fdb_runtime.specs.Sessions.{learning, with_current};
+ghost use Rattle.fdb_sections.specs.Commits.{CommitAnswers};
+ghost use Rattle.fdb_sections.specs.Reading.{HasRead};
+ghost use Rattle.fdb_sections.specs.Refusals.{is_of_begin, is_of_read};
+ghost use Rattle.fdb_sections.specs.Sessions.{learning, with_current};
 
-use crate::making::why_of;
-use crate::messages::grant_message::GrantMessage;
-use crate::name::ClusterName;
-use crate::receipt::Receipt;
-use crate::session_state::SessionState;
-use crate::session_state::settling::Ended;
-use crate::session_state::submitted::Submitted;
 use crate::shared::Shared;
 use crate::shared::shard::{hold_met, lent_of};
 use crate::shared::slot::Slot;
-use crate::threads::reply::{CommitReply, GrantReply, Slots};
+use crate::threads::reply::Slots;
 use crate::threads::request::{BeginRequest, CommitRequest};
 use bytes::Bytes;
 use fdb_client::Transcript;
 use fdb_keys::{Items, Key, KeyRange, Refusal, Refused};
 use fdb_mutations::Mutation;
+use fdb_sections::{
+    ClusterName, CommitReply, Ended, GrantMessage, GrantReply, Receipt, SessionState, Submitted,
+    why_of,
+};
 use fdb_txn::Sealed;
 use std::alloc::Global;
 use std::marker::Model;
 use std::sync::{Arc, Wait};
+
+// What a session is told that can't begin. What begins aren't refused for is a role's fault.
+fn begin_refusal(why: Refusal) -> Refusal
+    ensures { is_of_begin result ≡ true }
+{
+    match why {
+        Refusal::NoMemory | Refusal::Exhausted | Refusal::Closed => why,
+        _ => Refusal::Failed,
+    }
+}
+
+// The same of one whose open transaction can't read.
+fn read_refusal(why: Refusal) -> Refusal
+    ensures listed { is_of_read result ≡ true }
+    ensures open { result ≡ NoTransaction → ⊥ }
+{
+    match why {
+        Refusal::TransactionTooOld | Refusal::NoMemory | Refusal::Closed => why,
+        _ => Refusal::Failed,
+    }
+}
 
 /// Who runs transactions on a database, one at a time. It owns its share of what the database's threads share, so it
 /// may move to a thread of its own, and outlive the database: then it is refused as `Closed`.
@@ -48,7 +67,7 @@ pub struct Session<B: ClusterName> {
 }
 
 impl<B: ClusterName> Model for Session<B> {
-    ghost use Rattle.fdb_runtime.specs.Sessions.{Session as Seen};
+    ghost use Rattle.fdb_sections.specs.Sessions.{Session as Seen};
 
     ghost Value = { Seen };
 
@@ -75,7 +94,7 @@ impl<B: ClusterName> Session<B> {
     /// that was open is abandoned. It waits for a read-version proxy.
     ///
     /// Refused as `Exhausted` once all numbers of transactions are used, as `Closed` once the database is closed, as
-    /// `Failed`, and as `NoMemory`; then nothing changes.
+    /// `Failed`, and as `NoMemory`, and as nothing else; then nothing changes.
     pub fn begin<R: Wait>(&mut self, rt: &R, alloc: Global) -> Result<u64, Refusal>
         ensures version { IfOk result (λ version.
             (self.old.mark ≤ version) × (version ≤ last_version self.new.front)) }
@@ -89,6 +108,7 @@ impl<B: ClusterName> Session<B> {
             ops = [];
           });
         }) }
+        ensures refusals { IfErr result (λ why. is_of_begin why ≡ true) }
         ensures refused { OnErr result (self.new ≡ self.old) }
     {
         let granted = self.ask_version(rt)?;
@@ -96,7 +116,17 @@ impl<B: ClusterName> Session<B> {
     }
 
     // Asks its read-version proxy.
-    fn ask_version<R: Wait>(&self, rt: &R) -> Result<GrantMessage<B>, Refusal> {
+    fn ask_version<R: Wait>(&self, rt: &R) -> Result<GrantMessage<B>, Refusal>
+        ensures { IfErr result (λ why. is_of_begin why ≡ true) }
+    {
+        match self.ask_proxy(rt) {
+            Ok(granted) => Ok(granted),
+            Err(why) => Err(begin_refusal(why)),
+        }
+    }
+
+    // The same, refused for whatever reason the proxy gives.
+    fn ask_proxy<R: Wait>(&self, rt: &R) -> Result<GrantMessage<B>, Refusal> {
         let inboxes = self.shared.begins();
         if inboxes.is_empty() {
             return Err(Refusal::Failed);
@@ -166,9 +196,10 @@ impl<B: ClusterName> Session<B> {
     /// the book, at the transaction's read version. It is noted in the transcript. A snapshot read conflicts with
     /// nobody, and is promised nothing else. It waits for the key's shard, unless the own writes decide the key.
     ///
-    /// Refused as `NoTransaction` where none is open, as `TransactionTooOld` where the shard doesn't serve the version
-    /// any more, as `Closed` once the database is closed, as `Failed`, and as `NoMemory`; then nothing changes. It
-    /// takes the time of one `Shard::get` under the shard's lock, and of a share of a front.
+    /// Refused as `NoTransaction` exactly where none is open; else as `TransactionTooOld` where the shard doesn't serve
+    /// the version any more, as `Closed` once the database is closed, as `Failed`, and as `NoMemory`, and as nothing
+    /// else. Then nothing changes. It takes the time of one `Shard::get` under the shard's lock, and of a share of a
+    /// front.
     pub fn get<R: Wait>(
         &mut self,
         rt: &R,
@@ -179,11 +210,32 @@ impl<B: ClusterName> Session<B> {
         ensures answered { IfOk result (λ value. HasRead B.config.resolver_splits self.old
             (operation.Get key.now is_snapshot) (answer.Value value) self.new) }
         ensures none { self.old.current ≡ None → result ≡ Err NoTransaction }
+        ensures open { IfErr result (λ why. why ≡ NoTransaction → self.old.current ≡ None) }
+        ensures refusals { IfErr result (λ why. is_of_read why ≡ true) }
         ensures refused { OnErr result (self.new ≡ self.old) }
     {
         let Some(version) = self.state.read_version() else {
             return Err(Refusal::NoTransaction);
         };
+        match self.get_open(rt, alloc, version, key, is_snapshot) {
+            Ok(value) => Ok(value),
+            Err(why) => Err(read_refusal(why)),
+        }
+    }
+
+    // The same in the transaction that is open, at its read version, refused for whatever reason is given.
+    fn get_open<R: Wait>(
+        &mut self,
+        rt: &R,
+        alloc: Global,
+        version: u64,
+        key: &Key,
+        is_snapshot: bool,
+    ) -> Result<Option<Bytes>, Refusal>
+        ensures answered { IfOk result (λ value. HasRead B.config.resolver_splits self.old
+            (operation.Get key.now is_snapshot) (answer.Value value) self.new) }
+        ensures refused { OnErr result (self.new ≡ self.old) }
+    {
         if self.state.decides(key) {
             return self.state.get_decided(alloc, key, is_snapshot);
         }
@@ -217,11 +269,34 @@ impl<B: ClusterName> Session<B> {
         ensures answered { IfOk result (λ pairs. HasRead B.config.resolver_splits self.old
             (operation.Range range.now limit reverse is_snapshot) (answer.Pairs pairs) self.new) }
         ensures none { self.old.current ≡ None → result ≡ Err NoTransaction }
+        ensures open { IfErr result (λ why. why ≡ NoTransaction → self.old.current ≡ None) }
+        ensures refusals { IfErr result (λ why. is_of_read why ≡ true) }
         ensures refused { OnErr result (self.new ≡ self.old) }
     {
         let Some(version) = self.state.read_version() else {
             return Err(Refusal::NoTransaction);
         };
+        match self.range_open(rt, alloc, version, range, limit, reverse, is_snapshot) {
+            Ok(pairs) => Ok(pairs),
+            Err(why) => Err(read_refusal(why)),
+        }
+    }
+
+    // The same in the transaction that is open, at its read version, refused for whatever reason is given.
+    fn range_open<R: Wait>(
+        &mut self,
+        rt: &R,
+        alloc: Global,
+        version: u64,
+        range: &KeyRange,
+        limit: u32,
+        reverse: bool,
+        is_snapshot: bool,
+    ) -> Result<Items<(Key, Bytes)>, Refusal>
+        ensures answered { IfOk result (λ pairs. HasRead B.config.resolver_splits self.old
+            (operation.Range range.now limit reverse is_snapshot) (answer.Pairs pairs) self.new) }
+        ensures refused { OnErr result (self.new ≡ self.old) }
+    {
         let held = hold_met(rt, alloc, self.shared.shards_from(range), version, range)?;
         let shards = lent_of(alloc, held.as_slice())?;
         self.state.get_range_at(alloc, shards.as_slice(), range, limit, reverse, is_snapshot)

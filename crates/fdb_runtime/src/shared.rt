@@ -4,16 +4,13 @@ ghost use Rattle.fdb_keys.specs.Answers.{Answers, AnswersExactly};
 ghost use Rattle.fdb_proxy.specs.Configs.{config_fault};
 ghost use Rattle.fdb_runtime.specs.Databases.{AnswersMove, is_bad_move};
 
-use crate::making::both;
-use crate::messages::grant_message::GrantMessage;
-use crate::name::ClusterName;
-use crate::roles::log::LogAt;
-use crate::roles::sequencer::{Issued, SequencerAt};
-use crate::roles::shard::ShardAt;
 use crate::threads::request::{BeginRequest, CommitRequest};
 use fdb_book::Book;
 use fdb_keys::{Key, KeyRange, Refusal};
 use fdb_proxy::Config;
+use fdb_sections::{
+    ClusterName, GrantMessage, Issued, LogAt, LoggedFront, Reported, SequencerAt, ShardAt, both,
+};
 use fdb_storage::ShardMap;
 use fdb_txn::{Batch, Move};
 use inbox::SharedInbox;
@@ -123,10 +120,15 @@ impl<B: ClusterName> Shared<B> {
             .issue(self.alloc, &self.book, proxy, self.advance, batch)
     }
 
-    /// Tells the sequencer that the entries up to the version are committed. Refused as `SequencerAt::report` refuses
-    /// it.
-    pub(crate) fn report<R: Wait>(&self, rt: &R, version: u64) -> Result<(), Refusal> {
-        self.sequencer.lock(rt).report(version)
+    /// Tells the sequencer that all logs have the front's last entry. Refused as `SequencerAt::report` refuses it.
+    pub(crate) fn report<R: Wait>(
+        &self,
+        rt: &R,
+        logged: LoggedFront<B>,
+    ) -> Result<Reported<B>, Refusal>
+        ensures { IfOk result (λ reported. reported ≡ logged) }
+    {
+        self.sequencer.lock(rt).report(logged)
     }
 
     /// Hands a move to the sequencer, as `SequencerAt::move_to` takes and refuses it.

@@ -1,55 +1,11 @@
-ghost use Rattle.std.specs.Prelude.{◌≡◌, ◌≤◌, ◌&&◌, ⊤, false, not, nat_lt, IfOk};
-ghost use Rattle.std.specs.Option.{is_none};
+ghost use Rattle.std.specs.Prelude.{◌≡◌, ◌≤◌, false, IfOk};
 ghost use Rattle.std.specs.Sync.Mutex.{mutex_guard_value};
-ghost use Rattle.fdb_keys.specs.Answers.{AnswersExactly};
-ghost use Rattle.fdb_runtime.specs.Waiting.{is_closed, reach_fault};
 
-use crate::making::add;
-use crate::messages::peek_message::PeekMessage;
-use crate::name::ClusterName;
-use crate::roles::shard::ShardAt;
 use crate::shared::waiting::give_way;
 use fdb_keys::{KeyRange, Refusal};
+use fdb_sections::{ClusterName, PeekMessage, ShardAt, ShardState, add};
 use std::alloc::{AllocError, Global};
 use std::sync::{Condvar, Mutex, MutexGuard, Wait};
-
-/// A shard beside what its readers wait for.
-#[derive(Drop)]
-pub(crate) struct ShardState<B: ClusterName> {
-    pub(crate) at: ShardAt<B>,
-    // Why its thread pulls nothing any more, if that is so.
-    ended: Option<Refusal>,
-}
-
-impl<B: ClusterName> ShardState<B> {
-    // Whether a reader at the version waits on.
-    fn is_behind(&self, version: u64) -> bool
-        ensures { result
-            ≡ is_none self.now.ended && not self.now.at.shard.is_failed && nat_lt self.now.at.shard.version version }
-    {
-        self.ended.is_none() && !self.at.is_failed() && self.at.version() < version
-    }
-
-    // Refused where the shard doesn't come to the version any more, and where the database is closed.
-    fn check(&self, version: u64) -> Result<(), Refusal>
-        ensures { AnswersExactly result (reach_fault self.now.ended self.now.at.shard.version version) (λ _. ⊤) }
-    {
-        let Some(why) = self.ended else {
-            return Ok(());
-        };
-        if is_closed(why) || self.at.version() < version {
-            return Err(why);
-        }
-        Ok(())
-    }
-}
-
-// Whether it says that the database is closed.
-fn is_closed(why: Refusal) -> bool
-    ensures { result ≡ is_closed why }
-{
-    matches!(why, Refusal::Closed)
-}
 
 /// A shard that threads share.
 #[derive(Drop)]
@@ -62,7 +18,7 @@ impl<B: ClusterName> SharedShard<B> {
     /// The shard, with nothing to wait for. It takes no memory.
     pub(crate) fn new(at: ShardAt<B>) -> Self {
         SharedShard {
-            state: Mutex::new(ShardState { at, ended: None }),
+            state: Mutex::new(ShardState::new(at)),
             changed: Condvar::new(),
         }
     }
@@ -88,12 +44,12 @@ impl<B: ClusterName> SharedShard<B> {
 
     /// The version that the shard has come to. It takes no memory.
     pub(crate) fn version<R: Wait>(&self, rt: &R) -> u64 {
-        self.state.lock(rt).at.version()
+        self.state.lock(rt).version()
     }
 
     /// Applies what its log gave, and wakes who waits for it. Refused as `ShardAt::apply` refuses it.
     pub(crate) fn apply<R: Wait>(&self, rt: &R, given: &PeekMessage<B>) -> Result<(), Refusal> {
-        let answer = self.state.lock(rt).at.apply(given);
+        let answer = self.state.lock(rt).apply(given);
         self.changed.notify_all();
         answer
     }
@@ -101,17 +57,13 @@ impl<B: ClusterName> SharedShard<B> {
     /// Raises the floor to the version, if it isn't above it already. It takes no memory. Refused as `ShardAt::forget`
     /// refuses it.
     pub(crate) fn forget<R: Wait>(&self, rt: &R, version: u64) -> Result<(), Refusal> {
-        self.state.lock(rt).at.forget(version)
+        self.state.lock(rt).forget(version)
     }
 
     /// The shard's thread pulls nothing any more, for the first reason that was given, and nobody waits any longer. It
     /// takes no memory.
     pub(crate) fn end<R: Wait>(&self, rt: &R, why: Refusal) {
-        let mut state = self.state.lock(rt);
-        if state.ended.is_none() {
-            state.ended = Some(why);
-        }
-        drop(state);
+        self.state.lock(rt).end(why);
         self.changed.notify_all();
     }
 
@@ -124,7 +76,7 @@ impl<B: ClusterName> SharedShard<B> {
     // longer. Refused as `at_version` is.
     fn is_passed<R: Wait>(&self, rt: &R, version: u64, range: &KeyRange) -> Result<bool, Refusal> {
         let held = self.at_version(rt, version)?;
-        Ok(range.contains_text(held.at.range().end()))
+        Ok(held.is_passed_by(range))
     }
 }
 

@@ -3,9 +3,9 @@ ghost use Rattle.std.specs.Prelude.{◌≡◌, ⊤, None};
 ghost use Rattle.fdb_keys.specs.Answers.{Answers};
 
 use crate::gate::Pass;
-use crate::name::ClusterName;
 use crate::shared::Shared;
 use fdb_keys::Refusal;
+use fdb_sections::ClusterName;
 use std::sync::Arc;
 
 /// What the threads of a database share, beside the gate that some of them call.

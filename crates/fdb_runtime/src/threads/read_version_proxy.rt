@@ -1,16 +1,12 @@
 use crate::gate::Pass;
-use crate::messages::grant_message::GrantMessage;
-use crate::name::ClusterName;
 use crate::shared::Shared;
 use crate::shared::slot::Slot;
 use crate::threads::gated::Gated;
-use crate::threads::reply::GrantReply;
 use crate::threads::request::BeginRequest;
 use crate::threads::worker::Worker;
 use fdb_keys::Refusal;
-use fdb_proxy::GrvCore;
+use fdb_sections::{ClusterName, GrantReply, ReadVersionMachine};
 use std::alloc::Global;
-use std::collections::VecDeque;
 use std::sync::{Arc, Wait};
 
 /// Refuses all of them.
@@ -24,26 +20,11 @@ pub(crate) fn refuse_begins<B: ClusterName, R: Wait>(
     }
 }
 
-// What one is told whose read version this is. Refused where the front doesn't reach it.
-fn grant_of<B: ClusterName>(granted: &GrantMessage<B>, version: u64) -> GrantReply<B> {
-    if version > granted.front.version() {
-        return GrantReply::Refused(Refusal::Failed);
-    }
-    match granted.front.share() {
-        Ok(front) => GrantReply::Granted(GrantMessage {
-            front,
-            committed: version,
-        }),
-        Err(why) => GrantReply::Refused(why),
-    }
-}
-
-/// What a read-version proxy's thread has: the proxy, and who waits for its answers, in the order of asking.
+/// What a read-version proxy's thread has: the proxy, beside the slots of who waits for its answers.
 #[derive(Drop)]
 pub(crate) struct ReadVersionWorker<B: ClusterName> {
     number: u32,
-    state: GrvCore,
-    replies: VecDeque<Arc<Slot<GrantReply<B>>>>,
+    machine: ReadVersionMachine<B, Arc<Slot<GrantReply<B>>>>,
 }
 
 impl<B: ClusterName + Send + Sync + 'static, G: Pass + Send + Sync + 'static> Worker<Gated<B, G>>
@@ -69,8 +50,7 @@ impl<B: ClusterName> ReadVersionWorker<B> {
     pub(crate) fn new(alloc: Global, number: u32) -> Self {
         ReadVersionWorker {
             number,
-            state: GrvCore::new(alloc),
-            replies: VecDeque::new(alloc),
+            machine: ReadVersionMachine::new(alloc),
         }
     }
 
@@ -79,10 +59,8 @@ impl<B: ClusterName> ReadVersionWorker<B> {
         for request in asked {
             self.take(rt, request);
         }
-        match shared.granted(rt) {
-            Ok(granted) => self.grant(rt, &granted),
-            Err(why) => self.refuse(rt, why),
-        }
+        self.machine.granted(shared.granted(rt));
+        self.tell_all(rt);
     }
 
     // Takes a request, which is refused at once where memory runs out.
@@ -92,34 +70,18 @@ impl<B: ClusterName> ReadVersionWorker<B> {
             mark,
             reply,
         } = request;
-        if self.state.ask(session, mark).is_err() {
-            reply.put(rt, GrantReply::Refused(Refusal::NoMemory));
-            return;
-        }
-        if let Err(failed) = self.replies.push_back(reply) {
-            failed.value.put(rt, GrantReply::Refused(Refusal::NoMemory));
+        if let Err(refused) = self.machine.ask(session, mark, reply) {
+            refused.back.put(rt, GrantReply::Refused(refused.why));
         }
     }
 
-    // Answers all who asked, in the order of asking.
-    fn grant<R: Wait>(&mut self, rt: &R, granted: &GrantMessage<B>) {
-        let versions = self.state.grant(granted.committed);
-        for &(_session, version) in versions.as_slice() {
-            let Some(reply) = self.replies.pop_front() else {
+    // Gives all answers that are ready to who waits for them.
+    fn tell_all<R: Wait>(&mut self, rt: &R) {
+        for _ in rt.forever() {
+            let Some((who, reply)) = self.machine.ready() else {
                 return;
             };
-            reply.put(rt, grant_of(granted, version));
-        }
-    }
-
-    // Refuses all who asked.
-    fn refuse<R: Wait>(&mut self, rt: &R, why: Refusal) {
-        let versions = self.state.grant(0);
-        for _version in versions.as_slice() {
-            let Some(reply) = self.replies.pop_front() else {
-                return;
-            };
-            reply.put(rt, GrantReply::Refused(why));
+            who.put(rt, reply);
         }
     }
 }

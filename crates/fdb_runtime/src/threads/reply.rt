@@ -1,34 +1,11 @@
 ghost use Rattle.std.specs.Prelude.{⊤, None};
 ghost use Rattle.fdb_keys.specs.Answers.{Answers};
 
-use crate::known_front::KnownFront;
-use crate::messages::grant_message::GrantMessage;
-use crate::messages::outcome_message::OutcomeMessage;
-use crate::name::ClusterName;
 use crate::shared::slot::Slot;
 use fdb_keys::Refusal;
+use fdb_sections::{ClusterName, CommitReply, GrantReply};
 use std::alloc::Global;
 use std::sync::{Arc, Wait};
-
-/// What a session is told that asked for a commit.
-#[derive(Drop)]
-pub(crate) enum CommitReply<B: ClusterName> {
-    /// What became of it.
-    Outcome(OutcomeMessage<B>),
-    /// It has no entry, as the book is full, which the front shows.
-    Full(KnownFront<B>),
-    /// It is refused.
-    Refused(Refusal),
-}
-
-/// What a session is told that asked for a read version.
-#[derive(Drop)]
-pub(crate) enum GrantReply<B: ClusterName> {
-    /// A committed version.
-    Granted(GrantMessage<B>),
-    /// It is refused.
-    Refused(Refusal),
-}
 
 /// Where a session gets its replies, one slot for each kind.
 #[derive(Drop)]

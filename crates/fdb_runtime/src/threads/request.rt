@@ -1,6 +1,5 @@
-use crate::name::ClusterName;
 use crate::shared::slot::Slot;
-use crate::threads::reply::{CommitReply, GrantReply};
+use fdb_sections::{ClusterName, CommitReply, GrantReply};
 use fdb_txn::Sealed;
 use std::sync::Arc;
 

@@ -2,33 +2,20 @@ ghost use Rattle.std.specs.Prelude.{◌≡◌, ⊤, None};
 ghost use Rattle.fdb_keys.specs.Answers.{Answers};
 
 use crate::gate::{Pass, Role};
-use crate::making::why_of;
-use crate::messages::part_message::PartMessage;
-use crate::messages::verdict_message::VerdictMessage;
-use crate::name::ClusterName;
-use crate::roles::resolver::ResolverAt;
 use crate::threads::channel::{receive, send_to};
 use crate::threads::gated::Gated;
 use crate::threads::worker::Worker;
 use crossbeam_channel::{Receiver, Sender};
 use fdb_keys::Refusal;
-use fdb_txn::Room;
+use fdb_sections::{ClusterName, ResolverAt, ResolverMachine, SentPart, VerdictMessage};
 use std::alloc::Global;
 use std::sync::Wait;
 
-/// A part, with the number of the commit proxy that sends it.
-#[derive(Drop)]
-pub(crate) struct SentPart<B: ClusterName> {
-    pub(crate) proxy: u32,
-    pub(crate) message: PartMessage<B>,
-}
-
-/// What a resolver's thread has: the resolver, the parts that wait for those before them, and the channels.
+/// What a resolver's thread has: the resolver, and the channels.
 #[derive(Drop)]
 pub(crate) struct ResolverWorker<B: ClusterName> {
     number: u32,
-    at: ResolverAt<B>,
-    early: Room<SentPart<B>>,
+    machine: ResolverMachine<B>,
     // A `None` says that a commit proxy failed, whose entry never comes.
     parts: Receiver<Option<SentPart<B>>>,
     // One channel for each commit proxy, so that each of them sees at once that the resolver ended.
@@ -60,8 +47,7 @@ impl<B: ClusterName> ResolverWorker<B> {
     ) -> Self {
         ResolverWorker {
             number,
-            at,
-            early: Room::new(alloc),
+            machine: ResolverMachine::new(alloc, at),
             parts,
             verdicts: Vec::new(alloc),
         }
@@ -75,54 +61,32 @@ impl<B: ClusterName> ResolverWorker<B> {
         Ok(())
     }
 
-    // Keeps the part until its turn, and answers all parts whose turn has come.
+    // Takes the part, and answers all parts whose turn has come.
     fn turn<R: Wait, G: Pass>(
         &mut self,
         rt: &R,
         gate: &G,
         sent: SentPart<B>,
     ) -> Result<(), Refusal> {
-        self.keep(sent)?;
-        self.answer_ready(rt, gate)
-    }
-
-    // Keeps the part until its turn. One that came before is dropped.
-    fn keep(&mut self, sent: SentPart<B>) -> Result<(), Refusal> {
-        let prev = sent.message.part.prev;
-        let Err(refused) = self.early.put(prev, sent) else {
-            return Ok(());
-        };
-        match why_of(refused) {
-            Refusal::Stale => Ok(()),
-            why => Err(why),
-        }
-    }
-
-    // Answers all parts whose turn has come.
-    fn answer_ready<R: Wait, G: Pass>(&mut self, rt: &R, gate: &G) -> Result<(), Refusal> {
+        self.machine.take(sent)?;
         for _ in rt.forever() {
-            let Some(ready) = self.early.ready(self.at.version()) else {
+            let Some(entry) = self.machine.next() else {
                 break;
             };
-            let answered = self.answer(rt, gate, &ready);
-            drop(ready);
-            answered?;
+            self.answer(rt, gate, entry)?;
         }
         Ok(())
     }
 
-    // Takes a part, and sends the verdicts to who sent it.
-    fn answer<R: Wait, G: Pass>(
-        &mut self,
-        rt: &R,
-        gate: &G,
-        sent: &SentPart<B>,
-    ) -> Result<(), Refusal> {
+    // Sends the verdicts on the entry to who asked for them.
+    fn answer<R: Wait, G: Pass>(&mut self, rt: &R, gate: &G, entry: u32) -> Result<(), Refusal> {
         let role = Role::Resolver(self.number);
-        let entry = sent.message.part.index;
         gate.before(role, entry);
-        let verdicts = self.at.take(&sent.message)?;
+        let ready = self.machine.ready()?;
         gate.after(role, entry);
-        send_to(rt, self.verdicts.get(sent.proxy as usize), verdicts)
+        match ready {
+            Some(sent) => send_to(rt, self.verdicts.get(sent.proxy as usize), sent.message),
+            None => Ok(()),
+        }
     }
 }

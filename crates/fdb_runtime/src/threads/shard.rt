@@ -1,12 +1,11 @@
 use crate::gate::Pass;
-use crate::messages::peek_message::PeekMessage;
-use crate::name::ClusterName;
 use crate::shared::Shared;
 use crate::shared::log::SharedLog;
 use crate::shared::shard::SharedShard;
 use crate::threads::gated::Gated;
 use crate::threads::worker::Worker;
 use fdb_keys::Refusal;
+use fdb_sections::{ClusterName, PeekMessage};
 use fdb_txn::WINDOW;
 use std::sync::Wait;
 
@@ -64,11 +63,11 @@ fn take<B: ClusterName, R: Wait>(
     tag: u32,
     given: &PeekMessage<B>,
 ) -> Result<bool, Refusal> {
-    if given.peek.messages.is_empty() {
+    if given.is_empty() {
         return Ok(false);
     }
     shard.apply(rt, given)?;
-    log.pop(rt, tag, given.peek.through)?;
+    log.pop(rt, tag, given.through())?;
     Ok(true)
 }
 

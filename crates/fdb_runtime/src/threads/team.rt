@@ -3,7 +3,6 @@ ghost use Rattle.std.specs.Prelude.{◌≡◌, ⊤, None};
 ghost use Rattle.fdb_keys.specs.Answers.{Answers};
 
 use crate::gate::Gate;
-use crate::name::ClusterName;
 use crate::shared::Shared;
 use crate::threads::commit_proxy::refuse_commits;
 use crate::threads::gated::Gated;
@@ -11,6 +10,7 @@ use crate::threads::read_version_proxy::refuse_begins;
 use crate::threads::worker::{join_all, start_all};
 use crate::threads::workers::Workers;
 use fdb_keys::Refusal;
+use fdb_sections::ClusterName;
 use std::alloc::Global;
 use std::sync::{Arc, Wait};
 use std::thread::{JoinHandle, Threads};

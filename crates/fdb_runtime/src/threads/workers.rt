@@ -3,20 +3,16 @@ ghost use Rattle.std.specs.Prelude.{◌≡◌, ◌<◌, ⊤, suc, length, None};
 ghost use Rattle.fdb_keys.specs.Answers.{Answers};
 ghost use Rattle.fdb_proxy.specs.Configs.{config_fault};
 
-use crate::making::add;
-use crate::messages::verdict_message::VerdictMessage;
-use crate::name::ClusterName;
-use crate::roles::commit_proxy::CommitProxyAt;
-use crate::roles::resolver::ResolverAt;
 use crate::shared::{Shared, resolvers_and_shards};
 use crate::threads::channel::roomy;
 use crate::threads::commit_proxy::CommitWorker;
 use crate::threads::read_version_proxy::ReadVersionWorker;
-use crate::threads::resolver::{ResolverWorker, SentPart};
+use crate::threads::resolver::ResolverWorker;
 use crate::threads::shard::ShardWorker;
 use crossbeam_channel::{Receiver, Sender};
 use fdb_keys::Refusal;
 use fdb_proxy::Config;
+use fdb_sections::{ClusterName, CommitProxyAt, ResolverAt, SentPart, VerdictMessage, add};
 use std::alloc::Global;
 use std::sync::Wait;
 
@@ -187,7 +183,7 @@ fn commit_worker<B: ClusterName>(
 {
     let (parts, verdicts) = ties;
     let at = CommitProxyAt::new(shared.alloc, shared.book(), number, config)?;
-    Ok(CommitWorker::new(shared.alloc, number, at, parts, verdicts))
+    Ok(CommitWorker::new(shared.alloc, number, at, config.logs, parts, verdicts))
 }
 
 // Ties the next commit proxy to the resolver, and gives the end that it receives from. Refused only as `NoMemory`.

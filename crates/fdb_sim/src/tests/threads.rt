@@ -11,7 +11,7 @@ use fdb_load::{
     print_report, run_clients, run_load, run_threads,
 };
 use fdb_play::Stop;
-use fdb_runtime::{Blank, ClusterName, Config, Database, NoGate, Record, Spot};
+use fdb_runtime::{Blank, ClusterName, Config, Database, NoGate, Op, Record, Spot, Transcript};
 use std::alloc::Global;
 use std::fmt::Debug;
 use std::marker::Brand;
@@ -121,7 +121,8 @@ fn a_report_is_a_line_of_json(rt: HostRuntime) -> Result<(), Fail> {
     let mut out: Vec<u8> = Vec::new(rt.alloc());
     let status = print_report(rt.alloc(), &report, &mut out);
     let line =
-        b"{\"aborted\":1,\"acknowledged\":2,\"checked\":3,\"entries\":4,\"mode\":\"threads\",\"ok\":false,\"unknown\":5,\"workload\":\"transfers\"}\n";
+        b"{\"aborted\":1,\"acknowledged\":2,\"checked\":3,\"entries\":4,\"mode\":\"threads\",\
+        \"ok\":false,\"unknown\":5,\"workload\":\"transfers\"}\n";
     let is_printed = out.as_slice() == line.as_slice();
     same(&rt, (matches!(&status, Ok(1)), is_printed), (true, true));
     Ok(())
@@ -187,7 +188,7 @@ fn tries_are_counted(rt: HostRuntime) -> Result<(), Fail> {
     Ok(())
 }
 
-// What is changed of a run of the ring, which stays right in all else.
+// What is changed of a run, which stays right in all else.
 #[derive(Clone, Copy)]
 enum Change {
     Nothing,
@@ -195,6 +196,12 @@ enum Change {
     Lost,
     // Of a transaction with a receipt it isn't known whether it was committed.
     Doubted,
+    // The same, and the pairs are without it.
+    Unseen,
+    // It isn't known either, and the record is of a version below it.
+    Later,
+    // The same, and the pairs are without it.
+    LaterUnseen,
     // A receipt is there twice, of two tries.
     Twice,
     // A receipt has the place of another transaction.
@@ -205,6 +212,8 @@ enum Change {
     Reread,
     // One more try had no effect.
     Aborted,
+    // The same, and it was to be tried.
+    TurnedDown,
     // One more was to be tried.
     Missing,
     // It isn't known where the first transaction stands.
@@ -215,20 +224,45 @@ enum Change {
     Revalued,
 }
 
-const CHANGES: &[(Change, bool)] = &[
+// Changes of a run, and whether it is right after each of them.
+type Changes = &'static [(Change, bool)];
+
+const RING_CHANGES: Changes = &[
     (Change::Nothing, true),
     (Change::Lost, false),
     (Change::Doubted, true),
+    (Change::Later, false),
     (Change::Twice, false),
     (Change::Misplaced, false),
     (Change::Renamed, false),
     (Change::Reread, false),
     (Change::Aborted, false),
+    (Change::TurnedDown, true),
     (Change::Missing, false),
     (Change::Headless, false),
     (Change::Unpaired, false),
     (Change::Revalued, false),
 ];
+
+// Nothing is read, so no try can be turned down.
+const COUNTERS_CHANGES: Changes = &[
+    (Change::Nothing, true),
+    (Change::Doubted, true),
+    (Change::Unseen, false),
+    (Change::Later, false),
+    (Change::LaterUnseen, true),
+    (Change::TurnedDown, false),
+];
+
+// Nothing was tried, so nothing was acknowledged.
+const IDLE_CHANGES: Changes = &[(Change::Nothing, true), (Change::TurnedDown, false)];
+
+// A load, and what is changed of its run.
+#[derive(Clone, Copy)]
+struct Trial {
+    load: Load,
+    changes: Changes,
+}
 
 fn copy_of(placed: &Placed) -> Result<Placed, Refusal> {
     Ok(Placed {
@@ -261,7 +295,7 @@ fn change_told(asked: &mut Asked, played: &mut Played, change: Change) -> Result
             let _lost = played.placed.pop();
             played.aborted = played.aborted.saturating_add(1);
         }
-        Change::Doubted => {
+        Change::Doubted | Change::Unseen | Change::Later | Change::LaterUnseen => {
             if let Some(placed) = played.placed.pop() {
                 played.doubtful.push(placed.transcript)?;
             }
@@ -274,6 +308,10 @@ fn change_told(asked: &mut Asked, played: &mut Played, change: Change) -> Result
             asked.txns = asked.txns.saturating_add(1);
         }
         Change::Aborted => played.aborted = played.aborted.saturating_add(1),
+        Change::TurnedDown => {
+            played.aborted = played.aborted.saturating_add(1);
+            asked.txns = asked.txns.saturating_add(1);
+        }
         Change::Missing => asked.txns = asked.txns.saturating_add(1),
         Change::Headless => asked.first = Spot::ReadOnly { version: 0 },
         _ => {}
@@ -291,10 +329,37 @@ fn change_receipt(placed: &mut Placed, first: Spot, change: Change) {
     }
 }
 
+// Whether the transaction writes the key.
+fn writes(transcript: &Transcript, key: &Key) -> bool {
+    for (op, _reply) in transcript.ops.as_slice() {
+        if let Op::Write(mutation) = op {
+            return mutation.names(key);
+        }
+    }
+    false
+}
+
+// The pairs lose what the transaction added to a counter.
+fn take_back(
+    alloc: Global,
+    pairs: &mut Vec<(Key, Bytes)>,
+    transcript: &Transcript,
+) -> Result<(), Refusal> {
+    for pair in pairs.iter_mut() {
+        if writes(transcript, &pair.0) {
+            let low = pair.1.as_slice().first().copied().unwrap_or(0);
+            let before = u64::from(low).saturating_sub(1);
+            pair.1 = Bytes::copy_from_slice(alloc, &before.to_le_bytes())?;
+        }
+    }
+    Ok(())
+}
+
 // Makes the change of the pairs.
 fn change_pairs(
     alloc: Global,
     pairs: &mut Vec<(Key, Bytes)>,
+    played: &Played,
     change: Change,
 ) -> Result<(), Refusal> {
     match change {
@@ -306,6 +371,11 @@ fn change_pairs(
                 pair.1 = Bytes::copy_from_slice(alloc, b"r/00")?;
             }
         }
+        Change::Unseen | Change::LaterUnseen => {
+            if let Some(placed) = played.placed.last() {
+                take_back(alloc, pairs, &placed.transcript)?;
+            }
+        }
         _ => {}
     }
     Ok(())
@@ -315,23 +385,43 @@ fn change_pairs(
 fn changed_pairs(
     alloc: Global,
     pairs: &[(Key, Bytes)],
+    played: &Played,
     change: Change,
 ) -> Result<Vec<(Key, Bytes)>, Refusal> {
     let mut pairs = copied_pairs(alloc, pairs)?;
-    change_pairs(alloc, &mut pairs, change)?;
+    change_pairs(alloc, &mut pairs, played, change)?;
     Ok(pairs)
+}
+
+// The version right below that of the last transaction with a receipt.
+fn version_before(played: &Played) -> u64 {
+    match played.placed.last() {
+        Some(placed) => match placed.spot {
+            Spot::Entry { version, .. } | Spot::ReadOnly { version } => version.saturating_sub(1),
+        },
+        None => 0,
+    }
+}
+
+// The record's version after the change.
+fn changed_version(committed: u64, played: &Played, change: Change) -> u64 {
+    match change {
+        Change::Later | Change::LaterUnseen => version_before(played),
+        _ => committed,
+    }
 }
 
 // What clients were told, after the change.
 fn changed_told(
     alloc: Global,
+    load: &Load,
     ran: &(Spot, Played),
     change: Change,
 ) -> Result<(Asked, Played), Refusal> {
     let mut played = copies_of(alloc, &ran.1)?;
     let mut asked = Asked {
-        txns: 6,
-        workload: Workload::Ring,
+        txns: u64::from(load.txns),
+        workload: load.workload,
         first: ran.0,
     };
     change_told(&mut asked, &mut played, change)?;
@@ -345,22 +435,24 @@ fn changed_told(
 fn is_right(
     alloc: Global,
     kept: &Kept<'_>,
+    load: &Load,
     ran: &(Spot, Played),
     change: Change,
 ) -> Result<bool, Refusal>
     requires legal { config_fault kept.now.config.now ≡ None }
     requires book { IsBook (suc (length kept.now.config.now.resolver_splits)) kept.now.entries.now }
 {
-    match changed_told(alloc, ran, change) {
+    match changed_told(alloc, load, ran, change) {
         Ok((asked, played)) => Ok(judge(alloc, &asked, &played, kept)?.ok),
         Err(why) => Err(why),
     }
 }
 
-// The same after the change of the record's pairs, too.
+// The same after the change of the record, too.
 fn is_right_after<B: ClusterName>(
     alloc: Global,
     config: &Config,
+    load: &Load,
     ran: &(Spot, Played),
     record: &Record<B>,
     change: Change,
@@ -369,22 +461,23 @@ fn is_right_after<B: ClusterName>(
 {
     config.check()?;
     let entries = record.front().entries()?;
-    let pairs = changed_pairs(alloc, record.pairs(), change)?;
+    let pairs = changed_pairs(alloc, record.pairs(), &ran.1, change)?;
     let kept = Kept {
         config,
         entries: entries.as_slice(),
+        committed: changed_version(record.committed(), &ran.1, change),
         pairs: pairs.as_slice(),
     };
-    is_right(alloc, &kept, ran, change)
+    is_right(alloc, &kept, load, ran, change)
 }
 
-// Runs the ring on the database, and makes each change of what came of it.
+// Runs the load on the database, and makes each change of what came of it.
 fn change_each<B: ClusterName + Send + Sync + 'static, R: Host>(
     rt: &R,
     alloc: Global,
     blank: Blank,
     config: &Config,
-    load: &Load,
+    trial: &Trial,
 ) -> Result<(), Stop>
     requires cells { blank ≡ B.cells }
     requires config { config.now ≡ B.config }
@@ -398,9 +491,9 @@ fn change_each<B: ClusterName + Send + Sync + 'static, R: Host>(
     match Database::<B>::start(rt, alloc, blank, config, 1_000, &gate) {
         Ok(database) => {
             let mut database = database;
-            let ran = run_clients(rt, alloc, &mut database, load, pace, &mut err);
+            let ran = run_clients(rt, alloc, &mut database, &trial.load, pace, &mut err);
             let record = database.close(rt);
-            change_ran(rt, alloc, config, ran, record)
+            change_ran(rt, alloc, config, trial, ran, record)
         }
         Err(why) => Err(Stop::Refused(why)),
     }
@@ -410,13 +503,14 @@ fn change_ran<B: ClusterName, R: Host>(
     rt: &R,
     alloc: Global,
     config: &Config,
+    trial: &Trial,
     ran: Result<(Spot, Played), Stop>,
     record: Result<Record<B>, Refusal>,
 ) -> Result<(), Stop>
     requires { config.now ≡ B.config }
 {
     match ran {
-        Ok(ran) => change_closed(rt, alloc, config, &ran, record),
+        Ok(ran) => change_closed(rt, alloc, config, trial, &ran, record),
         Err(stop) => Err(stop),
     }
 }
@@ -425,6 +519,7 @@ fn change_closed<B: ClusterName, R: Host>(
     rt: &R,
     alloc: Global,
     config: &Config,
+    trial: &Trial,
     ran: &(Spot, Played),
     record: Result<Record<B>, Refusal>,
 ) -> Result<(), Stop>
@@ -432,7 +527,7 @@ fn change_closed<B: ClusterName, R: Host>(
 {
     match record {
         Ok(record) => {
-            change_recorded(rt, alloc, config, ran, &record);
+            change_recorded(rt, alloc, config, trial, ran, &record);
             Ok(())
         }
         Err(why) => Err(Stop::Refused(why)),
@@ -443,36 +538,58 @@ fn change_recorded<B: ClusterName, R: Host>(
     rt: &R,
     alloc: Global,
     config: &Config,
+    trial: &Trial,
     ran: &(Spot, Played),
     record: &Record<B>,
 )
     requires { config.now ≡ B.config }
 {
-    for (row, (change, is_right)) in CHANGES.iter().enumerate() {
-        let told = is_right_after(alloc, config, ran, record, *change);
+    for (row, (change, is_right)) in trial.changes.iter().enumerate() {
+        let told = is_right_after(alloc, config, &trial.load, ran, record, *change);
         same(rt, (row, told.ok()), (row, Some(*is_right)));
     }
 }
 
 // On a database of its own. One client has no conflict with another one, so each try has a receipt.
-fn change_runs<R: Host>(rt: &R, alloc: Global) -> Result<(), Stop> {
+fn change_runs<R: Host>(
+    rt: &R,
+    alloc: Global,
+    workload: Workload,
+    txns: u32,
+    changes: Changes,
+) -> Result<(), Stop> {
     let load = Load {
         clients: 1,
-        txns: 6,
+        txns,
         resolvers: 2,
         proxies: 1,
-        workload: Workload::Ring,
+        workload,
         progress: false,
     };
+    let trial = Trial { load, changes };
     match (config_of(alloc, &load), Blank::new(alloc, 1_048_576)) {
-        (Ok(config), Ok(blank)) => change_each::<Brand, R>(rt, alloc, blank, &config, &load),
+        (Ok(config), Ok(blank)) => change_each::<Brand, R>(rt, alloc, blank, &config, &trial),
         (Err(why), _) | (_, Err(why)) => Err(Stop::Refused(why)),
     }
 }
 
 #[test]
 fn a_run_that_is_changed_by_hand_is_found(rt: HostRuntime) -> Result<(), Fail> {
-    let ended = change_runs(&rt, rt.alloc());
+    let ended = change_runs(&rt, rt.alloc(), Workload::Ring, 6, RING_CHANGES);
+    same(&rt, ended.is_ok(), true);
+    Ok(())
+}
+
+#[test]
+fn counters_are_turned_down_by_nobody(rt: HostRuntime) -> Result<(), Fail> {
+    let ended = change_runs(&rt, rt.alloc(), Workload::Counters, 6, COUNTERS_CHANGES);
+    same(&rt, ended.is_ok(), true);
+    Ok(())
+}
+
+#[test]
+fn a_run_without_an_acknowledged_try_is_found(rt: HostRuntime) -> Result<(), Fail> {
+    let ended = change_runs(&rt, rt.alloc(), Workload::Ring, 0, IDLE_CHANGES);
     same(&rt, ended.is_ok(), true);
     Ok(())
 }

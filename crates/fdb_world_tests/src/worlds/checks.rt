@@ -6,9 +6,9 @@ use crate::asserting::same;
 use fdb_check::{JudgedBook, SerialRun};
 use fdb_client::{Op, Reply, Transcript};
 use fdb_core::{CheckFault, Placed, World, serial_check};
-use fdb_keys::Refusal;
+use fdb_keys::{Key, Refusal};
 use fdb_making::{ask, ask_both};
-use fdb_mutations::Mutation;
+use fdb_mutations::{Mutation, PlainMap};
 use fdb_txn::{Spot, TxnId};
 use std::alloc::Global;
 
@@ -228,6 +228,17 @@ fn new_world_lends_no_entry(rt: HostRuntime) {
     same(&rt, lent(rt.alloc()), Ok((2, 0, 0)));
 }
 
+// The first byte of what stands at a, if something does.
+fn at_a(alloc: Global, map: &PlainMap) -> Result<Option<u8>, CheckFault> {
+    let Ok(key) = Key::new(alloc, b"a") else {
+        return Err(CheckFault::NoMemory);
+    };
+    Ok(match map.get(&key) {
+        Some(value) => value.first().copied(),
+        None => None,
+    })
+}
+
 // How many entries are judged, how many transcripts are serialized at their spots, and how many entries are run after
 // the first, and after one more than there are.
 fn parts_found(alloc: Global, world: &World) -> Result<(usize, u64, usize, usize), CheckFault> {
@@ -247,4 +258,23 @@ fn the_parts_of_a_check_find_what_it_finds(rt: HostRuntime) {
     let alloc = rt.alloc();
     let found = ask(set_and_read(alloc, b'x'), |world| parts_found(alloc, world));
     same(&rt, found, Ok(Ok((1, 2, 1, 1))));
+}
+
+// What stands at a in the run of the judged book before its first entry, and after it.
+fn runs_found(alloc: Global, world: &World) -> Result<(Option<u8>, Option<u8>), CheckFault> {
+    let splits = world.config().resolver_splits.as_slice();
+    let Ok(judged) = JudgedBook::new(alloc, splits, world.book()) else {
+        return Err(CheckFault::NoMemory);
+    };
+    let run = SerialRun::new(alloc, &judged);
+    let before = at_a(alloc, run.map())?;
+    let run = run.next_entry()?;
+    Ok((before, at_a(alloc, run.map())?))
+}
+
+#[test]
+fn a_run_has_what_its_entries_left(rt: HostRuntime) {
+    let alloc = rt.alloc();
+    let found = ask(set_and_read(alloc, b'x'), |world| runs_found(alloc, world));
+    same(&rt, found, Ok(Ok((None, Some(b'x')))));
 }

@@ -44,3 +44,6 @@ returns-clause-workloads c = (
   (λ left. let same : Some 10 ≡ Some 9 = left.1 in absurd (omega (arith, same_Some 10 9 same))),
   (λ left. let same : 3 ≡ 4 = left.0 in absurd (omega arith)),
 )
+
+pub returns-clause-places : goal.returns-clause-places
+returns-clause-places c = (refl, refl, refl, refl, refl, refl, refl)

@@ -1,7 +1,7 @@
 use Rattle.std.proofs.Common.{Result, Ok, Err, IfOk, OnOk, ℕ, subst}
 use Rattle.fdb_keys.specs.declared.refusal.Refusal.{Refusal}
 use Rattle.fdb_book.specs.Fronts.{IsPrefix}
-use Rattle.fdb_runtime.specs.Sessions.{Session}
+use Rattle.fdb_sections.specs.Sessions.{Session}
 use Rattle.fdb_runtime.proofs.session.Session.begin.Goals as goal
 
 -- what is so where a call succeeds is so of whatever it gives

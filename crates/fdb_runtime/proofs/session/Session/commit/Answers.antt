@@ -2,10 +2,10 @@ use Rattle.std.proofs.Common.{ap, sym, subst, Some}
 use Rattle.std.specs.Prelude.{Ok, Err}
 use Rattle.fdb_keys.specs.declared.refusal.Refusal.TheVariants.{CommitUnknownResult}
 use Rattle.fdb_client.specs.declared.program.Transcript.{Transcript}
-use Rattle.fdb_runtime.specs.Commits.{CommitAnswers, CommitEnds}
-use Rattle.fdb_runtime.specs.Receipts.{ReceiptAtFront}
-use Rattle.fdb_runtime.specs.Sessions.{Session}
-use Rattle.fdb_runtime.proofs.CommitLemmas.{acknowledged, left-unknown, submitted}
+use Rattle.fdb_sections.specs.Commits.{CommitAnswers, CommitEnds}
+use Rattle.fdb_sections.specs.Receipts.{ReceiptAtFront}
+use Rattle.fdb_sections.specs.Sessions.{Session}
+use Rattle.fdb_sections.proofs.Exports.{acknowledged, left-unknown, submitted}
 use Rattle.fdb_runtime.proofs.session.Session.commit.Goals as goal
 
 pub returns-in-Ok-Acknowledged : goal.returns-in-Ok-Acknowledged

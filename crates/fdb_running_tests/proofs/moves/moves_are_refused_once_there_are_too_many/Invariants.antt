@@ -1,0 +1,7 @@
+use Rattle.fdb_running_tests.proofs.moves.moves_are_refused_once_there_are_too_many.Given as goal
+
+abbrev pub ghosts-fill_moves-B-BookName : goal.ghosts-fill_moves-B-BookName
+ghosts-fill_moves-B-BookName g a = record { cells = a.blank }
+
+abbrev pub ghosts-fill_moves-B-ClusterName : goal.ghosts-fill_moves-B-ClusterName
+ghosts-fill_moves-B-ClusterName g a = record { config = a.config.now }

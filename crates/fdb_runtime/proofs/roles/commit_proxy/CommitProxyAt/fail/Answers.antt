@@ -1,6 +1,0 @@
-use Rattle.fdb_runtime.proofs.CommitProxyLemmas.{fails}
-use Rattle.fdb_runtime.proofs.roles.commit_proxy.CommitProxyAt.fail.Goals as goal
-
-pub invariant_of-self : goal.invariant_of-self
-invariant_of-self g c =
-    fails g.B.ClusterName.config c.self.inside.front c.self.inside.state.proxy c.fail.new.self.proxy c.fail.ensures

@@ -1,7 +1,0 @@
-use Rattle.fdb_runtime.proofs.CommitProxyLemmas.{seals-or-stays}
-use Rattle.fdb_runtime.proofs.roles.commit_proxy.CommitProxyAt.seal.Goals as goal
-
-pub invariant_of-self : goal.invariant_of-self
-invariant_of-self g c =
-    seals-or-stays g.B.ClusterName.config c.self.inside.front c.self.inside.state c.seal.new.self c.seal.result
-    c.seal.ensures.answers c.seal.ensures.refused c.self.invariant

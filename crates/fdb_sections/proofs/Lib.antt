@@ -1,0 +1,15 @@
+pub mod Exports
+mod CommitLemmas
+mod CommitProxyLemmas
+mod IssueLemmas
+mod LentShardLemmas
+mod LogLemmas
+mod ReadingLemmas
+mod ReplyLemmas
+mod ResolverLemmas
+mod SessionLemmas
+mod SettlingLemmas
+mod ShardLemmas
+mod ShardViewLemmas
+mod TicketingLemmas
+mod TurnLemmas

@@ -1,0 +1,10 @@
+use Rattle.std.proofs.Common.{suc, length, subst}
+use Rattle.fdb_txn.specs.book.History.{IsBook}
+use Rattle.fdb_txn.proofs.Exports.{books_are_entries}
+use Rattle.fdb_sections.proofs.known_front.KnownFront.know_book.Goals as goal
+
+pub returns : goal.returns
+returns g c =
+    let resolvers = suc (length g.B.ClusterName.config.resolver_splits) in
+    subst (IsBook resolvers) c.self.view_is
+    ((books_are_entries resolvers c.self.inside.front).1 (c.self.invariant, c.len-count.ensures.book.ids)).0

@@ -1,0 +1,96 @@
+-- How a commit ends for the session that asked for it.
+use Rattle.std.specs.Prelude.{◌≡◌, ◌⊎◌, max, Bool, true, false, List, length, Option, Some, None, IfSome, Result}
+use Rattle.std.specs.Prelude.{Ok, Err}
+use Rattle.fdb_keys.specs.declared.refusal.Refusal.{Refusal}
+use Rattle.fdb_keys.specs.declared.refusal.Refusal.TheVariants as refusal
+use Rattle.fdb_keys.specs.declared.refusal.Refused.{Refused}
+use Rattle.fdb_book.specs.Fronts.{IsPrefix}
+use Rattle.fdb_txn.specs.declared.entry.Entry.{Entry}
+use Rattle.fdb_txn.specs.declared.spot.Spot.{Spot}
+use Rattle.fdb_txn.specs.declared.spot.Spot.TheVariants as spot
+use Rattle.fdb_proxy.specs.declared.config.Config.{Config}
+use Rattle.fdb_client.specs.Programs.{is_read_only}
+use Rattle.fdb_client.specs.declared.program.Transcript.{Transcript}
+use Rattle.fdb_roles.specs.Spots.{spot_version}
+use Rattle.fdb_roles.specs.Sessions.{submit_fault}
+use Rattle.fdb_sections.specs.Receipts.{ReceiptAtFront, IsTurnedDown}
+use Rattle.fdb_sections.specs.Sessions.{Session}
+
+-- whether a spot is that of a transaction that wrote nothing
+abbrev pub is_read_only_spot : Spot → Bool
+is_read_only_spot (spot.Entry index place version) = false
+is_read_only_spot (spot.ReadOnly version) = true
+
+-- whether a refusal tells of the book, which a front has to show
+abbrev pub is_shown : Refusal → Bool
+is_shown refusal.NotCommitted = true
+is_shown refusal.TransactionTooOld = true
+is_shown refusal.BookFull = true
+is_shown why = false
+
+-- whether a transaction that is handed back may be refused so: another one wrote what it read, its version is too old,
+-- nothing is known of it, a role failed, no version is left, the book is full, its id stands there already, the entry
+-- didn't go on from the book, or the database is closed
+abbrev pub is_handed_back : Refusal → Bool
+is_handed_back refusal.NotCommitted = true
+is_handed_back refusal.TransactionTooOld = true
+is_handed_back refusal.CommitUnknownResult = true
+is_handed_back refusal.Failed = true
+is_handed_back refusal.Exhausted = true
+is_handed_back refusal.BookFull = true
+is_handed_back (refusal.Repeated place) = true
+is_handed_back refusal.Chain = true
+is_handed_back refusal.Closed = true
+is_handed_back why = false
+
+-- What a refusal tells of the book that the session has seen then: the transaction stands there and isn't committed, or
+-- the book is full. Nothing is told by any other one.
+abbrev pub Tells : Config → List Entry → Transcript → Refusal → Type 0
+Tells config front transcript why =
+    (why ≡ refusal.NotCommitted → IsTurnedDown config.resolver_splits front transcript refusal.NotCommitted)
+    × (why ≡ refusal.TransactionTooOld
+    → IsTurnedDown config.resolver_splits front transcript refusal.TransactionTooOld)
+    × (why ≡ refusal.BookFull → length front ≡ config.book)
+
+-- The session has the receipt, on whose front it goes on. Its mark is no less than the version of the spot.
+pub record HasReceipt (old : Session) (transcript : Transcript) (receipt : ReceiptAtFront) (new : Session) : Type 0
+  where
+    pub its : receipt.transcript ≡ transcript
+    pub read_only : is_read_only_spot receipt.spot ≡ is_read_only transcript
+    pub begins : IsPrefix old.front receipt.front
+    pub left : new ≡ record old {
+      front = receipt.front;
+      mark = max old.mark (spot_version receipt.spot);
+      current = None;
+    }
+
+-- The session has the transcript back, and nothing open. It has seen at least as much of the book as before.
+pub record HasTranscript (config : Config) (old : Session) (transcript : Transcript)
+    (refused : Refused (Option Transcript)) (new : Session) : Type 0 where
+  pub back : refused.back ≡ Some transcript
+  pub listed : is_handed_back refused.why ≡ true
+  pub tells : Tells config new.front transcript refused.why
+  pub begins : IsPrefix old.front new.front
+  pub left : new ≡ record old { front = new.front; current = None }
+
+-- what becomes of a session's transaction that was submitted
+abbrev pub CommitEnds : Config → Session → Transcript → Result ReceiptAtFront (Refused (Option Transcript)) → Session
+    → Type 0
+CommitEnds config old transcript (Ok receipt) new = HasReceipt old transcript receipt new
+CommitEnds config old transcript (Err refused) new = HasTranscript config old transcript refused new
+
+-- why a session's transaction can't be submitted
+abbrev pub open_fault : Option Transcript → Option Refusal
+open_fault None = Some refusal.NoTransaction
+open_fault (Some transcript) = submit_fault transcript
+
+-- What a session that commits is answered. What was open stays where it can't be submitted, or memory runs out before.
+abbrev pub CommitAnswers
+    : Config → Session → Result ReceiptAtFront (Refused (Option Transcript)) → Session → Type 0
+CommitAnswers config old (Ok receipt) new =
+    (open_fault old.current ≡ None) × IfSome old.current (λ transcript. HasReceipt old transcript receipt new)
+CommitAnswers config old (Err refused) new =
+    ((refused.back ≡ None) × (new ≡ old)
+    × ((refused.why ≡ refusal.NoMemory) ⊎ (open_fault old.current ≡ Some refused.why)))
+    ⊎ ((open_fault old.current ≡ None)
+    × IfSome old.current (λ transcript. HasTranscript config old transcript refused new))

@@ -1,0 +1,17 @@
+pub mod CommitProxiesAtFronts
+pub mod Commits
+pub mod Endings
+pub mod Issuing
+pub mod LentShards
+pub mod Messages
+pub mod Reading
+pub mod Receipts
+pub mod Records
+pub mod Refusals
+pub mod RolesAtFronts
+pub mod Sessions
+pub mod ShardViews
+pub mod ShardsAtFronts
+pub mod Ticketing
+pub mod Turns
+pub mod Waiting

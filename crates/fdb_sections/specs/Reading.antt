@@ -1,0 +1,34 @@
+-- What a session reads at shards.
+use Rattle.std.specs.Prelude.{◌≡◌, ◌⊎◌, Bool, false, List, Option, Some, None, Result, Ok, Err}
+use Rattle.std.specs.Prelude.{IfSome}
+use Rattle.fdb_keys.specs.Points.{Point}
+use Rattle.fdb_keys.specs.declared.refusal.Refusal.{Refusal}
+use Rattle.fdb_keys.specs.declared.refusal.Refusal.TheVariants.{NoMemory}
+use Rattle.fdb_txn.specs.book.Book.{seen_of}
+use Rattle.fdb_txn.specs.rules.SerialMap.{serial_map_at}
+use Rattle.fdb_client.specs.Programs.{program, copy, decided, reply_on}
+use Rattle.fdb_client.specs.TxnState.{with_op}
+use Rattle.fdb_client.specs.declared.program.Op.{Op}
+use Rattle.fdb_client.specs.declared.program.Reply.{Reply}
+use Rattle.fdb_client.specs.declared.program.Transcript.{Transcript}
+use Rattle.fdb_sections.specs.Sessions.{Session, with_current}
+
+-- The open transaction, if there is one, was given the reply that the operation has after its own writes, on the serial
+-- map of what the session has seen of the book, at the read version; and it noted both.
+abbrev pub HasRead : (splits : List Point) (old : Session) (op : Op) (reply : Reply) (new : Session) → Type 0
+HasRead splits old op reply new =
+    IfSome old.current (λ (transcript : Transcript).
+    (reply
+    ≡ reply_on (copy (serial_map_at splits transcript.read_version (seen_of old.front).places)
+    (program transcript.ops)) op)
+    × (new ≡ with_current old (Some (with_op transcript op reply))))
+
+-- whether the own writes of an open transaction decide a key, if one is open
+abbrev pub own_writes_decide : Option Transcript → Point → Bool
+own_writes_decide None key = false
+own_writes_decide (Some transcript) key = decided (program transcript.ops) key
+
+-- The call is refused where there is a fault, with that fault unless memory ran out first, and else only as NoMemory.
+abbrev pub RefusedBy : {T : Type 0} → Result T Refusal → Option Refusal → Type 0
+RefusedBy (Ok given) fault = fault ≡ None
+RefusedBy (Err why) fault = (why ≡ NoMemory) ⊎ (fault ≡ Some why)

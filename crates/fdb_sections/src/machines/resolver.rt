@@ -1,0 +1,98 @@
+// A resolver that runs: parts that wait for those before them, and the verdicts that are ready.
+ghost use Rattle.std.specs.Prelude.{◌≡◌, None};
+
+use crate::making::why_of;
+use crate::messages::part_message::PartMessage;
+use crate::messages::verdict_message::VerdictMessage;
+use crate::name::ClusterName;
+use crate::roles::resolver::ResolverAt;
+use fdb_keys::Refusal;
+use fdb_txn::Room;
+use std::alloc::Global;
+
+/// A part, with the number of the commit proxy that sends it.
+#[derive(Drop)]
+pub struct SentPart<B: ClusterName> {
+    /// The number of the commit proxy.
+    pub proxy: u32,
+    /// The part.
+    pub message: PartMessage<B>,
+}
+
+/// Verdicts, with the number of the commit proxy that they are for.
+#[derive(Drop)]
+pub struct SentVerdicts<B: ClusterName> {
+    /// The number of the commit proxy.
+    pub proxy: u32,
+    /// The verdicts.
+    pub message: VerdictMessage<B>,
+}
+
+/// A resolver beside the parts that came, of which the one whose turn it is stands by itself.
+#[derive(Drop)]
+pub struct ResolverMachine<B: ClusterName> {
+    at: ResolverAt<B>,
+    early: Room<SentPart<B>>,
+    turn: Option<SentPart<B>>,
+}
+
+impl<B: ClusterName> ResolverMachine<B> {
+    /// The resolver, to which no part came. It takes no memory, and O(1) time.
+    pub fn new(alloc: Global, at: ResolverAt<B>) -> Self {
+        ResolverMachine {
+            at,
+            early: Room::new(alloc),
+            turn: None,
+        }
+    }
+
+    /// Takes a part, which waits until its turn comes. One that comes again is dropped. Refused only as `NoMemory`, and
+    /// then the resolver can't go on, as the part is lost. It takes O(log n) time for n parts that wait.
+    pub fn take(&mut self, sent: SentPart<B>) -> Result<(), Refusal> {
+        self.keep(sent)?;
+        self.find_turn();
+        Ok(())
+    }
+
+    // Keeps the part until its turn comes. One that comes again is dropped.
+    fn keep(&mut self, sent: SentPart<B>) -> Result<(), Refusal> {
+        let prev = sent.message.prev();
+        let Err(refused) = self.early.put(prev, sent) else {
+            return Ok(());
+        };
+        match why_of(refused) {
+            Refusal::Stale => Ok(()),
+            why => Err(why),
+        }
+    }
+
+    // Finds the part whose turn it is, where none is found already.
+    fn find_turn(&mut self) {
+        if self.turn.is_none() {
+            self.turn = self.early.ready(self.at.version());
+        }
+    }
+
+    /// The number of the entry whose part's turn it is, if that came. It takes no memory, and O(1) time.
+    pub fn next(&self) -> Option<u32> {
+        match &self.turn {
+            Some(sent) => Some(sent.message.entry()),
+            None => None,
+        }
+    }
+
+    /// Takes the part whose turn it is into account, and gives the verdicts on it, if it came. Refused as
+    /// `ResolverAt::take` refuses it; then the resolver can't go on. It takes what that takes, and O(log n) for n parts
+    /// that wait.
+    pub fn ready(&mut self) -> Result<Option<SentVerdicts<B>>, Refusal> {
+        let Some(sent) = self.turn.take() else {
+            return Ok(None);
+        };
+        let verdicts = self.at.take(&sent.message);
+        let proxy = sent.proxy;
+        drop(sent);
+        let message = verdicts?;
+        self.find_turn();
+        Ok(Some(SentVerdicts { proxy, message }))
+    }
+}

@@ -1,0 +1,61 @@
+// Values that are made one after another, any of which may lack memory. Their types are parameters here, so that where
+// one is dropped the loan check doesn't go over what it holds.
+ghost use Rattle.std.specs.Prelude.{◌≡◌, ◌⊎◌, Ok, Err, IfOk, IfErr};
+ghost use Rattle.fdb_keys.specs.declared.refusal.Refusal.TheVariants.{NoMemory};
+
+use fdb_keys::{Refusal, Refused};
+use std::collections::VecDeque;
+
+/// The value beside what was made after it, if that could be made.
+pub(crate) fn beside<S: Drop, T: Drop>(
+    value: S,
+    made: Result<T, Refusal>,
+) -> Result<(S, T), Refusal>
+    ensures given { IfOk result (λ both. (both.0 ≡ value) × (made ≡ Ok both.1)) }
+    ensures refused { IfErr result (λ why. made ≡ Err why) }
+{
+    match made {
+        Ok(made) => Ok((value, made)),
+        Err(why) => Err(why),
+    }
+}
+
+/// Both values, if both could be made.
+pub fn both<S: Drop, T: Drop>(
+    one: Result<S, Refusal>,
+    other: Result<T, Refusal>,
+) -> Result<(S, T), Refusal>
+    ensures given { IfOk result (λ both. (one ≡ Ok both.0) × (other ≡ Ok both.1)) }
+    ensures refused { IfErr result (λ why. (one ≡ Err why) ⊎ (other ≡ Err why)) }
+{
+    match (one, other) {
+        (Ok(one), Ok(other)) => Ok((one, other)),
+        (Err(why), _) | (_, Err(why)) => Err(why),
+    }
+}
+
+/// Adds the item, if it could be made.
+pub fn add<T: Drop>(items: &mut Vec<T>, made: Result<T, Refusal>) -> Result<(), Refusal>
+    ensures { IfErr result (λ why. (made ≡ Err why) ⊎ (why ≡ NoMemory)) }
+{
+    items.push(made?)?;
+    Ok(())
+}
+
+/// The same of those that are taken out in the order in which they come.
+pub(crate) fn add_last<T: Drop>(
+    items: &mut VecDeque<T>,
+    made: Result<T, Refusal>,
+) -> Result<(), Refusal>
+    ensures { IfErr result (λ why. (made ≡ Err why) ⊎ (why ≡ NoMemory)) }
+{
+    items.push_back(made?)?;
+    Ok(())
+}
+
+/// Why it is refused. What is handed back is dropped.
+pub fn why_of<T: Drop>(refused: Refused<T>) -> Refusal
+    ensures { result ≡ refused.why }
+{
+    refused.why
+}

@@ -1,0 +1,23 @@
+use crate::known_front::KnownFront;
+use crate::name::ClusterName;
+use fdb_proxy::Outcome;
+use std::marker::Model;
+
+/// What a session is told of its transaction: what became of a place of the front's last entry.
+#[derive(Drop)]
+pub struct OutcomeMessage<B: ClusterName> {
+    pub(crate) front: KnownFront<B>,
+    pub(crate) place: u32,
+    pub(crate) outcome: Outcome,
+}
+
+impl<B: ClusterName> Model for OutcomeMessage<B> {
+    ghost use Rattle.fdb_sections.specs.Receipts.{OutcomeAtFront, IsOutcome};
+
+    ghost Value = { OutcomeAtFront };
+
+    ghost view = { λ told. record { front = told.front; place = told.place; outcome = told.outcome } };
+
+    ghost invariant = { λ told. IsOutcome B.config.resolver_splits
+        (record { front = told.front; place = told.place; outcome = told.outcome }) };
+}

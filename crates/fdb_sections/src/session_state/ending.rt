@@ -1,0 +1,111 @@
+// How a session's transaction ends by what its commit proxy tells.
+ghost use Rattle.std.specs.Prelude.{◌≡◌, ◌⊎◌, max, true, false, length, None};
+ghost use Rattle.fdb_keys.specs.declared.refusal.Refusal.TheVariants.{BookFull, CommitUnknownResult};
+ghost use Rattle.fdb_book.specs.Fronts.{IsPrefix};
+ghost use Rattle.fdb_roles.specs.Spots.{spot_version};
+ghost use Rattle.fdb_client.specs.Programs.{is_read_only};
+ghost use Rattle.fdb_sections.specs.Commits.{CommitEnds, is_handed_back, is_shown};
+ghost use Rattle.fdb_sections.specs.Sessions.{IsOpenAt};
+
+use crate::known_front::KnownFront;
+use crate::messages::outcome_message::OutcomeMessage;
+use crate::messages::reply::CommitReply;
+use crate::name::ClusterName;
+use crate::receipt::Receipt;
+use crate::session_state::SessionState;
+use crate::session_state::submitted::Submitted;
+use fdb_client::Transcript;
+use fdb_keys::{Refusal, Refused};
+
+// What a session is told that is refused with no front to show why. A reason that a front would show, that memory ran
+// out on the way, and what no commit is refused for leave open what became of the transaction.
+fn plain_reason(why: Refusal) -> Refusal
+    ensures plain { is_shown result ≡ false }
+    ensures listed { is_handed_back result ≡ true }
+{
+    match why {
+        Refusal::Failed
+        | Refusal::Exhausted
+        | Refusal::Repeated(_)
+        | Refusal::Chain
+        | Refusal::Closed => why,
+        _ => Refusal::CommitUnknownResult,
+    }
+}
+
+impl<B: ClusterName> SessionState<B> {
+    /// Has the receipt of a transaction that it finished, which wrote nothing: the mark is no less than the version
+    /// that it read at. It takes no memory.
+    pub fn acknowledge(&mut self, receipt: Receipt<B>) -> Receipt<B>
+        requires { receipt.front ≡ self.old.front }
+        ensures same { result ≡ receipt }
+        ensures mark { self.new ≡ record self.old { mark = max self.old.mark (spot_version receipt.spot) } }
+    {
+        self.front.know_entries();
+        self.mark = u64::max(self.mark, receipt.version());
+        receipt
+    }
+
+    // Sees the front of a book that is full, and says why the transaction has no receipt.
+    fn see_full(&mut self, book: u32, front: &KnownFront<B>) -> Refusal
+        requires { book ≡ B.config.book }
+        ensures why { (result ≡ BookFull) ⊎ (result ≡ CommitUnknownResult) }
+        ensures listed { is_handed_back result ≡ true }
+        ensures full { result ≡ BookFull → length self.new.front ≡ B.config.book }
+        ensures begins { IsPrefix self.old.front self.new.front }
+        ensures left { self.new ≡ record self.old { front = self.new.front } }
+    {
+        match self.see(front) {
+            Ok(()) if self.front.len() == book as usize => Refusal::BookFull,
+            _ => Refusal::CommitUnknownResult,
+        }
+    }
+
+    // Settles the transaction, which is handed back where it has no receipt.
+    fn settle_or_back(
+        &mut self,
+        submitted: Submitted,
+        message: &OutcomeMessage<B>,
+    ) -> Result<Receipt<B>, Refused<Option<Transcript>>>
+        requires wrote { is_read_only submitted.transcript ≡ false }
+        requires opened { IsOpenAt B.config.resolver_splits self.old.number self.old.next_number self.old.front
+            submitted.transcript }
+        requires none { self.old.current ≡ None }
+        ensures { CommitEnds B.config self.old submitted.transcript result self.new }
+    {
+        match self.settle(submitted, message) {
+            Ok(receipt) => Ok(receipt),
+            Err(refused) => Err(Refused {
+                why: refused.why,
+                back: Some(refused.back),
+            }),
+        }
+    }
+
+    /// Ends a transaction of the session, none of which is open any more, by what its commit proxy tells.
+    pub fn end(
+        &mut self,
+        book: u32,
+        submitted: Submitted,
+        told: CommitReply<B>,
+    ) -> Result<Receipt<B>, Refused<Option<Transcript>>>
+        requires book { book ≡ B.config.book }
+        requires wrote { is_read_only submitted.transcript ≡ false }
+        requires opened { IsOpenAt B.config.resolver_splits self.old.number self.old.next_number self.old.front
+            submitted.transcript }
+        requires none { self.old.current ≡ None }
+        ensures { CommitEnds B.config self.old submitted.transcript result self.new }
+    {
+        match told {
+            CommitReply::Outcome(message) => self.settle_or_back(submitted, &message),
+            CommitReply::Full(front) => Err(Refused {
+                why: self.see_full(book, &front),
+                back: Some(submitted.into_transcript()),
+            }),
+            CommitReply::Refused(why) => Err(Refused {
+                why: plain_reason(why),
+                back: Some(submitted.into_transcript()),
+            }),
+        }
+    }
+}

@@ -1,0 +1,258 @@
+// How a session's transaction ends: it is finished, submitted if it wrote anything, and settled by what became of it.
+ghost use Rattle.std.specs.Prelude.{◌≡◌, ◌<◌, ◌≤◌, ◌↔◌, ◌⊎◌, ◌^◌, None, Some, IsTrue, IfOk, IfErr, IfSome, OnOk};
+ghost use Rattle.std.specs.Prelude.{OnErr, length};
+ghost use Rattle.std.specs.Option.{option_copied};
+ghost use Rattle.fdb_keys.specs.Answers.{Answers, AnswersExactly};
+ghost use Rattle.fdb_keys.specs.declared.refusal.Refusal.TheVariants.{CommitUnknownResult};
+ghost use Rattle.fdb_mutations.specs.Maps.{Map};
+ghost use Rattle.fdb_txn.specs.book.Book.{last_version};
+ghost use Rattle.fdb_book.specs.Fronts.{IsPrefix};
+ghost use Rattle.fdb_roles.specs.Spots.{AnsweredOn, spot_version};
+ghost use Rattle.fdb_roles.specs.Sessions.{OfOpen, Finishes};
+ghost use Rattle.fdb_sections.specs.Endings.{ended_on, Ends, MayEndOn, MaySettle};
+ghost use Rattle.fdb_sections.specs.Receipts.{IsOutcome, IsReceipt, IsToldOf, IsTurnedDown};
+ghost use Rattle.fdb_sections.specs.Receipts.{spot_told, settle_fault, transaction_told};
+ghost use Rattle.fdb_sections.specs.Sessions.{longer, seeing, with_current, IsOpenAt, Settles, TakesOutcome};
+
+use crate::known_front::KnownFront;
+use crate::messages::outcome_message::OutcomeMessage;
+use crate::name::ClusterName;
+use crate::receipt::Receipt;
+use crate::session_state::submitted::Submitted;
+use crate::session_state::{SessionState, share_longer};
+use fdb_client::{Finished, Transcript, Txn};
+use fdb_keys::{Refusal, Refused};
+use fdb_proxy::Outcome;
+use fdb_txn::{Sealed, Spot};
+use std::mem;
+
+/// What a session's transaction comes to once it is finished.
+#[derive(Drop)]
+pub enum Ended<B: ClusterName> {
+    /// It wrote nothing, and has its receipt.
+    Acknowledged(Receipt<B>),
+    /// It is to be committed.
+    ToCommit(Sealed, Transcript),
+}
+
+// Finishes what is open, if anything is, which stays open where that is refused.
+fn finish_current(current: &mut Option<Txn>) -> Result<Finished, Refusal>
+    ensures answers { OfOpen current.old result (Finishes result) }
+    ensures ended { OnOk result (current.new ≡ None) }
+    ensures refused { OnErr result (current.new ≡ current.old) }
+{
+    match mem::replace(current, None) {
+        Some(txn) => finish_or_keep(current, txn),
+        None => Err(Refusal::NoTransaction),
+    }
+}
+
+// Finishes the transaction, which is kept where that is refused.
+fn finish_or_keep(current: &mut Option<Txn>, txn: Txn) -> Result<Finished, Refusal>
+    ensures answers { Finishes result txn }
+    ensures ended { OnOk result (current.new ≡ current.old) }
+    ensures kept { OnErr result (current.new ≡ Some txn) }
+{
+    match txn.finish() {
+        Ok(finished) => Ok(finished),
+        Err(refused) => {
+            drop(mem::replace(current, Some(refused.back)));
+            Err(refused.why)
+        }
+    }
+}
+
+// What is left to do of what is finished; where that is nothing, its receipt on the front.
+fn ended_on<B: ClusterName>(front: KnownFront<B>, finished: Finished) -> Ended<B>
+    requires { MayEndOn B.config.resolver_splits front finished }
+    ensures { result ≡ ended_on front finished }
+{
+    match finished {
+        Finished::ReadOnly(transcript) => {
+            let version = transcript.read_version;
+            Ended::Acknowledged(Receipt::new(front, Spot::ReadOnly { version }, transcript))
+        }
+        Finished::ToCommit(sealed, transcript) => Ended::ToCommit(sealed, transcript),
+    }
+}
+
+// What stands at the place that the message tells of, if there is any.
+fn transaction_told<B: ClusterName>(message: &OutcomeMessage<B>) -> Option<&Sealed>
+    ensures { option_copied result ≡ transaction_told message.now }
+{
+    let count = message.front.len();
+    if count == 0 {
+        return None;
+    }
+    match message.front.entry(count - 1) {
+        Some(entry) => entry.batch.as_slice().get(message.place as usize),
+        None => None,
+    }
+}
+
+// Whether the message is of what was submitted. It takes no memory.
+fn is_told_of<B: ClusterName>(message: &OutcomeMessage<B>, submitted: &Submitted) -> bool
+    ensures { IsTrue result ↔ IsToldOf message.now submitted.now.transcript }
+{
+    // A spot has 32 bits for the number of the entry.
+    if message.front.len() > 4_294_967_296 {
+        return false;
+    }
+    match transaction_told(message) {
+        Some(sealed) => submitted.is_request(sealed),
+        None => false,
+    }
+}
+
+// The longer of both fronts twice, where the message is of the transaction. Refused as `CommitUnknownResult` where it
+// isn't, and as `NoMemory`.
+fn fronts_with<B: ClusterName>(
+    own: &KnownFront<B>,
+    message: &OutcomeMessage<B>,
+    submitted: &Submitted,
+) -> Result<(KnownFront<B>, KnownFront<B>), Refusal>
+    ensures told { OnOk result (IsToldOf message.now submitted.now.transcript) }
+    ensures longer { IfOk result (λ fronts. (fronts.0 ≡ longer own.now message.now.front) × (fronts.1 ≡ fronts.0)) }
+    ensures begins { IfOk result (λ fronts. IsPrefix own.now fronts.0 × IsPrefix message.now.front fronts.0) }
+    ensures reaches { IfOk result (λ fronts. (last_version own.now ≤ last_version fronts.0)
+        × (last_version message.now.front ≤ last_version fronts.0)) }
+{
+    if !is_told_of(message, submitted) {
+        return Err(Refusal::CommitUnknownResult);
+    }
+    let front = share_longer(own, &message.front)?;
+    let share = front.share()?;
+    Ok((front, share))
+}
+
+// The spot that the message tells of where it is committed, else why it isn't.
+fn spot_told<B: ClusterName>(message: &OutcomeMessage<B>) -> Result<Spot, Refusal>
+    requires { length message.now.front ≤ 2 ^ 32 }
+    ensures answers { AnswersExactly result (settle_fault message.now.outcome) (λ spot. spot ≡ spot_told message.now) }
+    ensures told { IsOutcome B.config.resolver_splits message.now }
+{
+    match message.outcome {
+        Outcome::Commit { .. } => {
+            let index = (message.front.len() - 1) as u32;
+            let place = message.place;
+            let version = message.front.version();
+            Ok(Spot::Entry {
+                index,
+                place,
+                version,
+            })
+        }
+        Outcome::Conflict => Err(Refusal::NotCommitted),
+        Outcome::Old => Err(Refusal::TransactionTooOld),
+    }
+}
+
+impl<B: ClusterName> SessionState<B> {
+    /// Sees a front of the database: the front becomes the longer of both. Refused only as `NoMemory`, and then nothing
+    /// changes. It takes O(1) time.
+    pub(crate) fn see(&mut self, front: &KnownFront<B>) -> Result<(), Refusal>
+        ensures answers { Answers result None (λ _. self.new ≡ seeing self.old front.now) }
+        ensures begins { IsPrefix self.old.front self.new.front }
+        ensures sees { OnOk result (IsPrefix front.now self.new.front) }
+        ensures refused { OnErr result (self.new ≡ self.old) }
+    {
+        let front = share_longer(&self.front, front)?;
+        front.know_entries();
+        self.front = front;
+        Ok(())
+    }
+
+    /// Finishes the open transaction, and answers what is left to do of it; none is open then. What it was answered
+    /// stands on the front. Refused as `NoTransaction` where none is open, as `TransactionTooLarge` where what is to be
+    /// committed has more than 10,000,000 bytes, and as `NoMemory`; then nothing changes.
+    pub(crate) fn finish(&mut self) -> Result<Finished, Refusal>
+        ensures answers { OfOpen self.old.current result (Finishes result) }
+        ensures opened { IfSome self.old.current
+            (IsOpenAt B.config.resolver_splits self.old.number self.old.next_number self.old.front) }
+        ensures ended { OnOk result (self.new ≡ with_current self.old None) }
+        ensures refused { OnErr result (self.new ≡ self.old) }
+    {
+        finish_current(&mut self.current)
+    }
+
+    /// The same with a receipt of what wrote nothing, at its read version on the front, for which memory is asked
+    /// before anything changes. What is to be committed may be settled. It takes the time of `Txn::finish`.
+    pub fn finish_or_receipt(&mut self) -> Result<Ended<B>, Refusal>
+        ensures answers { OfOpen self.old.current result (Ends self.old.front result) }
+        ensures settled { IfOk result (MaySettle B.config.resolver_splits self.new) }
+        ensures ended { OnOk result (self.new ≡ with_current self.old None) }
+        ensures refused { OnErr result (self.new ≡ self.old) }
+    {
+        if self.current.is_none() {
+            return Err(Refusal::NoTransaction);
+        }
+        let front = self.front.share()?;
+        let finished = self.finish()?;
+        Ok(ended_on(front, finished))
+    }
+
+    // Takes what became of the transaction. Refused as `settle` is.
+    fn take_outcome(
+        &mut self,
+        submitted: &Submitted,
+        message: &OutcomeMessage<B>,
+    ) -> Result<(KnownFront<B>, Spot), Refusal>
+        requires { IsOpenAt B.config.resolver_splits self.old.number self.old.next_number self.old.front
+            submitted.now.transcript }
+        ensures answers { TakesOutcome self.old message.now submitted.now.transcript result self.new }
+        ensures begins { IsPrefix self.old.front self.new.front }
+        ensures given { IfOk result (λ given. IsReceipt B.config.resolver_splits
+            (record { front = given.0; spot = given.1; transcript = submitted.now.transcript })) }
+        ensures turned { IfErr result (λ why. (why ≡ CommitUnknownResult)
+            ⊎ IsTurnedDown B.config.resolver_splits self.new.front submitted.now.transcript why) }
+    {
+        let Ok((front, share)) = fronts_with(&self.front, message, submitted) else {
+            return Err(Refusal::CommitUnknownResult);
+        };
+        let told = spot_told(message);
+        front.know_entries();
+        front.know_book();
+        self.front = front;
+        match told {
+            Ok(spot) => {
+                self.mark = u64::max(self.mark, message.front.version());
+                Ok((share, spot))
+            }
+            Err(why) => Err(why),
+        }
+    }
+
+    /// Settles a transaction of the session by what a proxy tells of it. Where that is committed, it gives its receipt
+    /// on the longer of both fronts, at its place of the message's last entry, which is above its read version; the
+    /// front becomes the longer one, and the mark is no less than the entry's version. A refusal hands the transcript
+    /// back: as `NotCommitted` where it had a conflict, and as `TransactionTooOld` where it was too old, and then the
+    /// front becomes the longer one; as `CommitUnknownResult` where the message isn't of the transaction, and where
+    /// memory runs out, and then nothing changes. It takes O(n) time for the n bytes of the request, however long the
+    /// fronts are.
+    pub(crate) fn settle(
+        &mut self,
+        submitted: Submitted,
+        message: &OutcomeMessage<B>,
+    ) -> Result<Receipt<B>, Refused<Transcript>>
+        requires { IsOpenAt B.config.resolver_splits self.old.number self.old.next_number self.old.front
+            submitted.transcript }
+        ensures answers { Settles self.old message.now submitted.transcript result self.new }
+        ensures begins { IsPrefix self.old.front self.new.front }
+        ensures receipt { IfOk result (IsReceipt B.config.resolver_splits) }
+        ensures goes_on { IfOk result (λ receipt. IsPrefix self.old.front receipt.front) }
+        ensures after { IfOk result (λ receipt. submitted.transcript.read_version < spot_version receipt.spot) }
+        ensures marked { IfOk result (λ receipt. spot_version receipt.spot ≤ self.new.mark) }
+        ensures turned { IfErr result (λ refused. (refused.why ≡ CommitUnknownResult)
+            ⊎ IsTurnedDown B.config.resolver_splits self.new.front submitted.transcript refused.why) }
+    {
+        let taken = self.take_outcome(&submitted, message);
+        let transcript = submitted.into_transcript();
+        match taken {
+            Ok((front, spot)) => Ok(Receipt::new(front, spot, transcript)),
+            Err(why) => Err(Refused {
+                why,
+                back: transcript,
+            }),
+        }
+    }
+}
