@@ -100,7 +100,7 @@ at_turned x y = ap is_eq (nat_list_cmp_total.antisymm x y) ∙ turned (slice_cmp
     turned Greater = refl
 
 -- the breakpoints of a range are those that lie in it
-between-is : (range : Range) (x : Point)
+pub between-is : (range : Range) (x : Point)
     → range_contains (slice_cmp nat_cmp) (Included range.begin) (Excluded range.end) x ≡ in_range range x
 unfolding point_lt
 between-is range x =

@@ -4,6 +4,7 @@ mod BetweenLemmas
 mod BookLemmas
 mod ChangesLemmas
 mod CountLemmas
+mod DecidingLemmas
 mod FirstLemmas
 mod FreshLemmas
 mod HistoryLemmas

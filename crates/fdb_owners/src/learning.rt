@@ -1,5 +1,6 @@
 // What moves change of the pieces: first all that may lack memory and changes no history, then what takes none.
-ghost use Rattle.std.specs.Prelude.{◌≡◌, ◌++◌, ◌∷◌, [], ◌<◌, ℕ, true, IfOk, OnOk, OnErr, IsTrue, nat_le, if◌then◌else◌};
+ghost use Rattle.std.specs.Prelude.{◌≡◌, ◌++◌, ◌∷◌, [], ◌<◌, ℕ, true, IfOk, IfErr, OnOk, OnErr, IsTrue, nat_le};
+ghost use Rattle.std.specs.Prelude.{if◌then◌else◌};
 ghost use Rattle.std.specs.BTreeMap.{insert_entry, is_at};
 ghost use Rattle.std.specs.Cmp.Lexicographic.{slice_cmp};
 ghost use Rattle.std.specs.List.{AllByRecursion};
@@ -7,17 +8,19 @@ ghost use Rattle.std.specs.Map.{set_value};
 ghost use Rattle.std.specs.Ordering.{nat_cmp};
 ghost use Rattle.fdb_keys.specs.Points.{Point};
 ghost use Rattle.fdb_keys.specs.Texts.{is_bound};
+ghost use Rattle.fdb_keys.specs.declared.refusal.Refusal.TheVariants.{NoMemory};
 ghost use Rattle.fdb_interval.specs.Breakpoints.{AreRising};
 ghost use Rattle.fdb_owners.specs.Histories.{owner_in};
 ghost use Rattle.fdb_owners.specs.Learning.{IsSplit, HasBounds, changed, fresh_by, fresh_of, touched_by, with_fresh};
 ghost use Rattle.fdb_owners.specs.Ownership.{target_after};
 ghost use Rattle.fdb_owners.specs.Pieces.{history_at, has_break, joined, IsPieces};
 
+use crate::deciding::decisive_moves;
 use crate::history::{Change, History};
 use crate::knowing::{know_bounds, know_rising};
 use crate::pieces::Pieces;
 use bytes::Bytes;
-use fdb_keys::{Items, KeyRange};
+use fdb_keys::{Items, KeyRange, Refusal};
 use fdb_txn::Move;
 use std::alloc::{AllocError, Global};
 use std::collections::BTreeMap;
@@ -25,14 +28,16 @@ use std::ops::Bound;
 
 /// Gives the keys of the moves' ranges over to their targets from the version on, a later move before an earlier one.
 /// Where memory runs out, each key has the owners it had, and the breakpoints differ only by ones at which nothing
-/// changes. The answer is how many breakpoints were touched, where one is counted for each move whose range it is in.
-/// For each of those a history is copied, and it and each move take O(log n) comparisons among n breakpoints.
+/// changes. The answer is how many breakpoints were touched: those that lie in a move's range. For each of those one
+/// history is copied, however many moves hold it. m moves take O(m log m) comparisons, and each of them and each
+/// breakpoint that is touched O(log n) among n breakpoints.
 pub(crate) fn learn_moves(
     alloc: Global,
     pieces: &mut Pieces,
     version: u64,
     moves: &[Move],
-) -> Result<u64, AllocError>
+) -> Result<u64, Refusal>
+    ensures refusal { IfErr result (λ why. why ≡ NoMemory) }
     ensures owners { OnOk result ((x : Point) (v : ℕ) → owner_in (history_at pieces.new x) v
         ≡ (if nat_le version v then target_after moves.now x (owner_in (history_at pieces.old x) v)
         else owner_in (history_at pieces.old x) v)) }
@@ -46,8 +51,9 @@ pub(crate) fn learn_moves(
     ensures kept { OnErr result ((resolvers last : ℕ) → IsPieces resolvers last pieces.old
         → IsPieces resolvers last pieces.new) }
 {
-    split_all(alloc, pieces, moves)?;
-    let fresh = list_fresh(alloc, &pieces.breaks, version, moves)?;
+    let decisive = decisive_moves(alloc, moves)?;
+    split_all(alloc, pieces, decisive.as_slice())?;
+    let fresh = list_fresh(alloc, &pieces.breaks, version, decisive.as_slice())?;
     let count = fresh.len();
     put_all(&mut pieces.breaks, fresh);
     Ok(count as u64)
@@ -124,7 +130,8 @@ fn change_history(alloc: Global, history: &History, change: Change) -> Result<Hi
     })
 }
 
-// For each move in turn the breakpoints in its range, each with the history that it has then, by that move alone.
+// For each move in turn the breakpoints in its range, each with the history that it has then, by that move alone. Where
+// the ranges share no key, each breakpoint is made once.
 fn list_fresh(
     alloc: Global,
     breaks: &BTreeMap<Bytes, History>,

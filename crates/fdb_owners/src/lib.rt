@@ -1,6 +1,7 @@
 //! Which resolver owns which keys at which version: the pieces between splits at first, and what was moved since.
 #![tactic(auto)]
 
+mod deciding;
 mod history;
 mod knowing;
 pub mod laws;

@@ -30,7 +30,8 @@ pub struct Owners {
     pieces: Pieces,
     last: u64,
     floor: u64,
-    // How many breakpoints were touched since the last expiry, the one that it saw last, and how many rounds are left.
+    // How many breakpoints were touched since the last expiry, each once a version, the one that it saw last, and how
+    // many rounds are left.
     touched: u64,
     cursor: Option<Bytes>,
     rounds: u32,
@@ -93,8 +94,9 @@ impl Owners {
     /// Learns the moves that take effect at a version, the earliest one first: from that version on the keys of each
     /// move's range belong to its target, where no later move of them says otherwise. The targets exist. Refused as
     /// `Stale` where the version isn't above the last one learnt, which is 0 at first, and as `NoMemory`. Where it is
-    /// refused, nothing changes. It takes O(log n) for the n breakpoints and each move, and as much for each breakpoint
-    /// in its range, besides copying the history there.
+    /// refused, nothing changes. For m moves it takes O(m log m), and O(log n) for each of them and for each of the n
+    /// breakpoints that lies in a range of theirs. There the history is copied once, however many moves hold it, and
+    /// besides it takes O(m) memory.
     pub fn learn(&mut self, version: u64, moves: &[Move]) -> Result<(), Refusal>
         requires { All (λ move. move.to < resolvers_of self.old) moves.now }
         ensures answers { Answers result (learn_fault self.old version)
@@ -210,8 +212,8 @@ impl Owners {
 
     /// Says that no reader will ask for a span that begins below the version. What is answered of the last version
     /// learnt, and of spans that begin at the version or above it, stays. It takes O(m log n) for the n breakpoints and
-    /// the m that were touched since the last expiry, and O(1) once all that was learnt has expired and was looked at.
-    /// It takes no memory.
+    /// the m that were touched since the last expiry, each counted once for each version that was learnt there, and
+    /// O(1) once all that was learnt has expired and was looked at. It takes no memory.
     pub fn expire(&mut self, version: u64)
         ensures { HasExpired self.old version self.new }
     {

@@ -66,7 +66,7 @@ acknowledged {B} config old middle new receipt ended its of middle-is new-is = b
     by_current (Some transcript) is = (is.1, by_kind transcript (is_read_only transcript) refl is.0)
 
 -- What is to be committed is what was open, and wrote something.
-to-commit : {B : Type 0} (front : List Entry) (current : Option Transcript) (request : Transaction)
+pub to-commit : {B : Type 0} (front : List Entry) (current : Option Transcript) (request : Transaction)
     (transcript : Transcript) (ended : Ended B) → ended ≡ ToCommit request transcript
     → OfOpen current (Ok ended) (Ends front (Ok ended))
     → (current ≡ Some transcript) × (open_fault current ≡ None)

@@ -1,4 +1,5 @@
 pub mod Exports
+mod ClientLemmas
 mod CommitLemmas
 mod CommitProxyLemmas
 mod IssueLemmas

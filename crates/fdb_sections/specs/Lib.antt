@@ -1,13 +1,17 @@
+pub mod Clients
+pub mod CommitMachines
 pub mod CommitProxiesAtFronts
 pub mod Commits
 pub mod Endings
 pub mod Issuing
 pub mod LentShards
 pub mod Messages
+pub mod ReadVersionMachines
 pub mod Reading
 pub mod Receipts
 pub mod Records
 pub mod Refusals
+pub mod ResolverMachines
 pub mod RolesAtFronts
 pub mod Sessions
 pub mod ShardViews

@@ -3,6 +3,7 @@
 //! lock or a channel.
 #![tactic(auto)]
 
+mod client;
 mod known_front;
 mod locked;
 mod machines;
@@ -14,6 +15,7 @@ mod record;
 mod roles;
 mod session_state;
 
+pub use client::{Asked, Client};
 pub use fdb_book::{Blank, Book, BookName, Front};
 pub use known_front::KnownFront;
 pub use locked::inbox::Inbox;

@@ -1,6 +1,7 @@
 // Values that are made one after another, any of which may lack memory. Their types are parameters here, so that where
 // one is dropped the loan check doesn't go over what it holds.
-ghost use Rattle.std.specs.Prelude.{◌≡◌, ◌⊎◌, Ok, Err, IfOk, IfErr};
+ghost use Rattle.std.specs.Prelude.{◌≡◌, ◌⊎◌, ◌++◌, [], ◌∷◌, drop, Ok, Err, IfOk, IfErr, IfNone, IsOk, OnOk};
+ghost use Rattle.std.specs.Option.{option_to_list};
 ghost use Rattle.fdb_keys.specs.declared.refusal.Refusal.TheVariants.{NoMemory};
 
 use fdb_keys::{Refusal, Refused};
@@ -47,10 +48,21 @@ pub(crate) fn add_last<T: Drop>(
     items: &mut VecDeque<T>,
     made: Result<T, Refusal>,
 ) -> Result<(), Refusal>
-    ensures { IfErr result (λ why. (made ≡ Err why) ⊎ (why ≡ NoMemory)) }
+    ensures refused { IfErr result (λ why. (made ≡ Err why) ⊎ (why ≡ NoMemory)) }
+    ensures added { OnOk result (IfOk made (λ item. items.new.items ≡ items.old.items ++ item ∷ [])) }
+    ensures made { OnOk result (IsOk made) }
 {
     items.push_back(made?)?;
     Ok(())
+}
+
+/// Takes out the first of them, if there is one.
+pub(crate) fn take_first<T: Drop>(items: &mut VecDeque<T>) -> Option<T>
+    ensures first { items.old.items ≡ option_to_list result ++ items.new.items }
+    ensures none { IfNone result (items.old.items ≡ []) }
+    ensures rest { items.new.items ≡ drop 1 items.old.items }
+{
+    items.pop_front()
 }
 
 /// Why it is refused. What is handed back is dropped.

@@ -8,6 +8,7 @@ mod lines;
 mod playing;
 mod random;
 mod scripts;
+mod simulating;
 mod tables;
 mod threads;
 mod words;

@@ -363,3 +363,103 @@ fn three_resolvers_need_two_splits(rt: HostRuntime) {
     );
     same(&rt, code_of(owners), 9009);
 }
+
+// Whether all moves are of one range, or by turns of one key, each of another one, and of a range around the keys in
+// the middle, each of a lesser one; and how many moves there are.
+type Many = (bool, u32);
+
+const MANY: &[Many] = &[(true, 65_536), (false, 4_000)];
+
+// How many keys the moves by turns are of, how many of these are looked up, and how far apart.
+const KEYS: u32 = 4_000;
+
+const LOOKED_UP: u32 = 40;
+
+const STEP: u32 = 97;
+
+// The keys of the move with the number, from the first up to but not including the second, and its target.
+fn move_by(many: Many, number: u32) -> (u32, u32, u32)
+    ensures { result.2 < 2 }
+{
+    let pair = number / 2;
+    let to = pair % 2;
+    if many.0 {
+        return (1_000, 2_000, to);
+    }
+    if number.is_multiple_of(2) {
+        return (number, number.saturating_add(1), to);
+    }
+    (pair, KEYS.saturating_sub(pair), to)
+}
+
+fn push_move(
+    moves: &mut Items<Move>,
+    alloc: Global,
+    begin: u32,
+    end: u32,
+    to: u32,
+) -> Result<(), Refusal>
+    requires { to < 2 }
+    ensures { IfOk result (λ _. All (λ move. move.to < 2) moves.old → All (λ move. move.to < 2) moves.new) }
+{
+    let range = KeyRange::new(alloc, &begin.to_be_bytes(), &end.to_be_bytes())?;
+    push(moves, Move { range, to })
+}
+
+fn many_moves(alloc: Global, many: Many) -> Result<Items<Move>, Refusal>
+    ensures { IfOk result (λ moves. All (λ move. move.to < 2) moves) }
+{
+    let mut moves = Items::new(alloc);
+    for number in 0..many.1 {
+        let (begin, end, to) = move_by(many, number);
+        push_move(&mut moves, alloc, begin, end, to)?;
+    }
+    Ok(moves)
+}
+
+// The target of the last move that holds the key, else the first resolver.
+fn target_of(many: Many, key: u32) -> u32 {
+    for number in (0..many.1).rev() {
+        let (begin, end, to) = move_by(many, number);
+        if begin <= key && key < end {
+            return to;
+        }
+    }
+    0
+}
+
+// Whether the targets own the keys that are looked up.
+fn own_targets(owners: &Owners, alloc: Global, many: Many) -> Result<bool, u32> {
+    for place in 0..LOOKED_UP {
+        let number = place.saturating_mul(STEP);
+        let owner = ask(
+            Key::new(alloc, &number.to_be_bytes()),
+            |key| owners.owner(key),
+        )?;
+        if owner != target_of(many, number) {
+            return Ok(false);
+        }
+    }
+    Ok(true)
+}
+
+// The owners that learnt the moves at version 300.
+fn learnt(alloc: Global, many: Many) -> Result<Owners, Refusal> {
+    let moves = many_moves(alloc, many)?;
+    let mut owners = two_resolvers(alloc)?;
+    owners.learn(300, moves.as_slice())?;
+    Ok(owners)
+}
+
+#[test]
+fn many_moves_of_one_version_are_learnt_at_once(rt: HostRuntime) {
+    let alloc = rt.alloc();
+    for many in MANY {
+        let found = ask_mut(learnt(alloc, *many), |owners| {
+            let before = own_targets(owners, alloc, *many);
+            owners.expire(300);
+            (before, own_targets(owners, alloc, *many))
+        });
+        same(&rt, found, Ok((Ok(true), Ok(true))));
+    }
+}

@@ -94,7 +94,8 @@ impl<B: ClusterName> CommitWorker<B> {
     ) -> Flow {
         let done = match self.machine.next() {
             Next::Request => return self.wait_for_requests(rt, inbox),
-            Next::Entry => return self.enter(rt, gate, shared, inbox),
+            Next::Seal => return self.enter(rt, gate, shared, inbox),
+            Next::Entry => Err(Refusal::Failed),
             Next::Part => self.send_part(rt),
             Next::Verdicts(resolver) => self.take_verdicts(rt, resolver),
             Next::Message => self.push_message(rt, shared),
@@ -135,7 +136,9 @@ impl<B: ClusterName> CommitWorker<B> {
         let Some(why) = ended else {
             return Flow::On;
         };
-        self.machine.refuse_all(why, None);
+        if self.machine.refuse_all(why, None).is_err() {
+            return Flow::Failed;
+        }
         self.tell_all(rt);
         Flow::Ended
     }
@@ -200,19 +203,13 @@ impl<B: ClusterName> CommitWorker<B> {
         self.machine.unissued();
         match why {
             Refusal::NoMemory | Refusal::Taken => Err(why),
-            Refusal::BookFull => {
-                self.refuse_full(shared.granted(rt));
-                Ok(())
-            }
-            why => {
-                self.machine.refuse_all(why, None);
-                Ok(())
-            }
+            Refusal::BookFull => self.refuse_full(shared.granted(rt)),
+            why => self.machine.refuse_all(why, None),
         }
     }
 
     // Refuses all who wait, as the book is full, which what the sequencer grants shows.
-    fn refuse_full(&mut self, granted: Result<GrantMessage<B>, Refusal>) {
+    fn refuse_full(&mut self, granted: Result<GrantMessage<B>, Refusal>) -> Result<(), Refusal> {
         match granted {
             Ok(granted) => self.machine.refuse_all(Refusal::BookFull, Some(granted)),
             Err(why) => self.machine.refuse_all(why, None),

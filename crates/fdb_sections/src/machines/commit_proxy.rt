@@ -1,10 +1,28 @@
 // A commit proxy that runs: what it waits for, and what is ready to be sent.
-ghost use Rattle.std.specs.Prelude.{◌≡◌, ◌++◌, [], ◌∷◌, OnOk, OnErr, IfErr, IfSome, IfNone, IsSome};
+ghost use Rattle.std.specs.Prelude.{◌≡◌, ◌-◌, ◌==◌, ◌++◌, ◌⊎◌, nat_lt, [], ◌∷◌, length, take, suc, None, Some, Err};
+ghost use Rattle.std.specs.Prelude.{OnOk};
+ghost use Rattle.std.specs.Prelude.{OnErr, IfErr, IfSome, IfNone, if◌then◌else◌};
+ghost use Rattle.std.specs.Prelude.{OnSome, true, false};
+ghost use Rattle.std.specs.Option.{option_map, option_to_list};
+ghost use Rattle.fdb_keys.specs.Answers.{Answers, AnswersExactly};
+ghost use Rattle.fdb_keys.specs.declared.refusal.Refusal.TheVariants.{NoMemory, WrongState, Failed};
+ghost use Rattle.fdb_keys.specs.declared.refusal.Refusal.TheVariants.{CommitUnknownResult};
+ghost use Rattle.fdb_txn.specs.Limits.{place_limit};
+ghost use Rattle.fdb_proxy.specs.CommitProxies.{sealing, with_verdict, decide_fault, all_logged_fault, answers_in};
+ghost use Rattle.fdb_proxy.specs.CommitProxies.{finishing};
 ghost use Rattle.fdb_sections.specs.declared.machines.commit_proxy.Next.TheVariants as next;
 ghost use Rattle.fdb_sections.specs.declared.machines.commit_proxy.Phase.TheVariants as phase;
+ghost use Rattle.fdb_sections.specs.CommitMachines.{is_refusing, is_at_rest, next_of, submit_fault, submitting};
+ghost use Rattle.fdb_sections.specs.CommitMachines.{seal_fault};
+ghost use Rattle.fdb_sections.specs.CommitMachines.{HasEntered, unissuing, rested, refusing, decided, judged};
+ghost use Rattle.fdb_sections.specs.CommitMachines.{acknowledged, report_fault, AreRepliesFrom, IsAnswer, has_answer};
+ghost use Rattle.fdb_sections.specs.CommitMachines.{IsRefusal, without_answer, answered, failing};
+ghost use Rattle.fdb_sections.specs.CommitProxiesAtFronts.{verdict_fault, ack_fault};
+ghost use Rattle.fdb_sections.specs.Receipts.{GrantAtFront};
+ghost use Rattle.fdb_sections.specs.Ticketing.{AnswersTicket};
 
 use crate::known_front::KnownFront;
-use crate::making::why_of;
+use crate::making::{take_first, why_of};
 use crate::messages::log_message::LogMessage;
 use crate::messages::part_message::PartMessage;
 use crate::messages::reply::CommitReply;
@@ -17,13 +35,16 @@ use fdb_keys::{Refusal, Refused};
 use fdb_txn::{Batch, Sealed};
 use std::alloc::Global;
 use std::collections::VecDeque;
+use std::marker::Model;
 
 /// What a commit proxy waits for, or what is to be done with what it hands out.
 #[derive(Clone, Copy)]
 pub enum Next {
     /// It waits for a request: nobody waits for an answer.
     Request,
-    /// It is to be sealed, and waits for the entry of its batch.
+    /// Requests wait, and are to be sealed.
+    Seal,
+    /// It waits for the entry of the batch that is sealed.
     Entry,
     /// A part is ready for its resolver.
     Part,
@@ -69,10 +90,10 @@ pub struct CommitMachine<B: ClusterName, W> {
     phase: Phase,
     resolvers: u32,
     logs: u32,
-    // How many resolvers' verdicts, or then logs' acknowledgements, of the batch in flight came.
-    came: u32,
+    // How many resolvers' verdicts, or then logs' acknowledgements, of the batch in flight haven't come.
+    left: u32,
     waiting: VecDeque<W>,
-    // How many of the first who wait are of a batch that has an entry.
+    // How many of the first who wait are of a batch that has an entry, or for which the sequencer was asked for one.
     entered: usize,
     parts: VecDeque<PartMessage<B>>,
     messages: VecDeque<LogMessage<B>>,
@@ -81,10 +102,67 @@ pub struct CommitMachine<B: ClusterName, W> {
     full: Option<KnownFront<B>>,
 }
 
+impl<B: ClusterName, W> Model for CommitMachine<B, W> {
+    ghost use Rattle.fdb_sections.specs.CommitMachines.{CommitMachine as Seen};
+
+    ghost Value = { Seen B W };
+
+    ghost view = { λ it. record {
+      front = it.at.front;
+      proxy = it.at.state.proxy;
+      resolvers = it.resolvers;
+      logs = it.logs;
+      phase = it.phase;
+      left = it.left;
+      waiting = it.waiting.items;
+      entered = it.entered;
+      parts = it.parts.items;
+      messages = it.messages.items;
+      replies = it.replies.items;
+      full = it.full;
+    } };
+}
+
+// Hands a request to the proxy, unless all who wait are being refused: then it is dropped.
+fn hand_on<B: ClusterName>(
+    at: &mut CommitProxyAt<B>,
+    phase: Phase,
+    sealed: Sealed,
+) -> Result<(), Refusal>
+    ensures taken { OnOk result ((submit_fault phase at.old.state.proxy sealed ≡ None)
+        × (at.new.state.proxy ≡ submitting phase at.old.state.proxy sealed)) }
+    ensures refused { OnErr result (at.new.state.proxy ≡ at.old.state.proxy) }
+    ensures why { IfErr result (λ why.
+        (why ≡ NoMemory) ⊎ (submit_fault phase at.old.state.proxy sealed ≡ Some why)) }
+    ensures front { at.new.front ≡ at.old.front }
+{
+    if let Phase::Refusing(_) = phase {
+        drop(sealed);
+        return Ok(());
+    }
+    match at.submit(sealed) {
+        Ok(()) => Ok(()),
+        Err(refused) => Err(why_of(refused)),
+    }
+}
+
 impl<B: ClusterName, W: Drop> CommitMachine<B, W> {
     /// A commit proxy that nobody has asked, of so many resolvers and logs. It takes no memory, and O(1) time.
     pub fn new(alloc: Global, at: CommitProxyAt<B>, resolvers: u32, logs: u32) -> Self
-        ensures { result.waiting.items ≡ [] }
+        ensures { result ≡ record {
+          front = at.front;
+          proxy = at.state.proxy;
+          resolvers = resolvers;
+          logs = logs;
+          phase = phase.Idle;
+          left = 0;
+          waiting = [];
+          entered = 0;
+          parts = [];
+          messages = [];
+          replies = [];
+          full = None;
+        } }
     {
         CommitMachine {
             alloc,
@@ -92,7 +170,7 @@ impl<B: ClusterName, W: Drop> CommitMachine<B, W> {
             phase: Phase::Idle,
             resolvers,
             logs,
-            came: 0,
+            left: 0,
             waiting: VecDeque::new(alloc),
             entered: 0,
             parts: VecDeque::new(alloc),
@@ -104,19 +182,20 @@ impl<B: ClusterName, W: Drop> CommitMachine<B, W> {
 
     /// What it waits for, or what is ready. It takes no memory, and O(1) time.
     pub fn next(&self) -> Next
-        ensures end { result ≡ next.End → self.now.waiting.items ≡ [] }
+        ensures next { result ≡ next_of self.now }
+        ensures end { result ≡ next.End → self.now.waiting ≡ [] }
     {
         if !self.replies.is_empty() {
             return Next::Answer;
         }
         match self.phase {
-            Phase::Idle if self.at.waits() => Next::Entry,
+            Phase::Idle if self.at.waits() => Next::Seal,
             Phase::Idle => Next::Request,
             Phase::Sealed => Next::Entry,
             Phase::Resolving if !self.parts.is_empty() => Next::Part,
-            Phase::Resolving => Next::Verdicts(self.came),
+            Phase::Resolving => Next::Verdicts(self.resolvers.saturating_sub(self.left)),
             Phase::Logging if !self.messages.is_empty() => Next::Message,
-            Phase::Logging => Next::Acknowledgement(self.came),
+            Phase::Logging => Next::Acknowledgement(self.logs.saturating_sub(self.left)),
             Phase::Logged => Next::Report,
             Phase::Refusing(_) => Next::Answer,
             Phase::Failed if !self.waiting.is_empty() => Next::Answer,
@@ -124,13 +203,18 @@ impl<B: ClusterName, W: Drop> CommitMachine<B, W> {
         }
     }
 
-    /// Takes a request, of who waits for its answer after all others. Refused as `CommitProxyAt::submit` refuses it,
-    /// and as `NoMemory`; then who asks is handed back, and nobody else waits than before. It takes O(1) expected time
-    /// but for growth.
+    /// Takes a request, of who waits for its answer after all others. While all who wait are refused, it is dropped,
+    /// and who asks waits for that. Refused as `CommitProxyAt::submit` refuses it, and as `NoMemory`; then who asks is
+    /// handed back, and nothing changes. It takes O(1) expected time but for growth.
     pub fn submit(&mut self, sealed: Sealed, who: W) -> Result<(), Refused<W>>
-        ensures taken { OnOk result (self.new.waiting.items ≡ self.old.waiting.items ++ who ∷ []) }
-        ensures refused { OnErr result (self.new.waiting.items ≡ self.old.waiting.items) }
-        ensures back { IfErr result (λ refused. refused.back ≡ who) }
+        ensures taken { OnOk result ((submit_fault self.old.phase self.old.proxy sealed ≡ None)
+            × (self.new ≡ record self.old {
+              proxy = submitting self.old.phase self.old.proxy sealed;
+              waiting = self.old.waiting ++ who ∷ [];
+            })) }
+        ensures refused { OnErr result (self.new ≡ self.old) }
+        ensures back { IfErr result (λ refused. (refused.back ≡ who) × ((refused.why ≡ NoMemory)
+            ⊎ (submit_fault self.old.phase self.old.proxy sealed ≡ Some refused.why))) }
     {
         if self.waiting.reserve(1).is_err() {
             drop(sealed);
@@ -139,11 +223,8 @@ impl<B: ClusterName, W: Drop> CommitMachine<B, W> {
                 back: who,
             });
         }
-        if let Err(refused) = self.at.submit(sealed) {
-            return Err(Refused {
-                why: why_of(refused),
-                back: who,
-            });
+        if let Err(why) = hand_on(&mut self.at, self.phase, sealed) {
+            return Err(Refused { why, back: who });
         }
         match self.waiting.push_back(who) {
             Ok(()) => Ok(()),
@@ -151,12 +232,31 @@ impl<B: ClusterName, W: Drop> CommitMachine<B, W> {
         }
     }
 
-    /// Seals the batch of those who wait, at most 4,096 of them, and gives it, for which the sequencer is to be asked
-    /// for an entry. Refused as `CommitProxyAt::seal` refuses it.
-    pub fn seal(&mut self) -> Result<Batch, Refusal>
-        ensures { self.new.waiting.items ≡ self.old.waiting.items }
+    // Whether no batch is in flight, and everybody has the answers of the one before.
+    fn is_at_rest(&self) -> bool
+        ensures { result ≡ is_at_rest self.now }
     {
+        matches!(self.phase, Phase::Idle) && self.replies.is_empty()
+    }
+
+    /// Seals the batch of those who wait, at most 4,096 of them, and gives it, for which the sequencer is to be asked
+    /// for an entry. Refused as `WrongState` while a batch is in flight, while answers are ready, and once it has
+    /// failed, and as `NoMemory`; then nothing changes.
+    pub fn seal(&mut self) -> Result<Batch, Refusal>
+        ensures answers { Answers result (seal_fault self.old) (λ batch.
+            (batch ≡ take place_limit self.old.proxy.waiting)
+            × (self.new ≡ record self.old {
+              proxy = sealing self.old.proxy;
+              entered = length (sealing self.old.proxy).batch;
+              phase = phase.Sealed;
+            })) }
+        ensures refused { OnErr result (self.new ≡ self.old) }
+    {
+        if !self.is_at_rest() {
+            return Err(Refusal::WrongState);
+        }
         let batch = self.at.seal()?;
+        self.entered = self.at.in_flight();
         self.phase = Phase::Sealed;
         Ok(batch)
     }
@@ -164,30 +264,43 @@ impl<B: ClusterName, W: Drop> CommitMachine<B, W> {
     /// Takes the entry that the sequencer gave the batch: each resolver's part is ready then. A refusal, which
     /// `CommitProxyAt::learn` gives, or for memory, is for who then has the proxy fail.
     pub fn issued(&mut self, issued: Issued<B>) -> Result<(), Refusal>
-        ensures { self.new.waiting.items ≡ self.old.waiting.items }
+        ensures answers { (result ≡ Err NoMemory)
+            ⊎ AnswersTicket result self.old.front issued.front self.old.proxy issued.ticket }
+        ensures taken { OnOk result (HasEntered self.old issued.ticket issued.front self.new) }
+        ensures waiting { self.new.waiting ≡ self.old.waiting }
+        ensures entered { self.new.entered ≡ self.old.entered }
     {
         let Issued { ticket, front } = issued;
-        self.entered = self.at.in_flight();
         self.at.learn(&ticket, front)?;
         self.parts = self.at.part_messages(self.alloc)?;
-        self.came = 0;
+        self.left = self.resolvers;
         self.phase = Phase::Resolving;
         Ok(())
     }
 
-    /// The sequencer gave the batch no entry: its requests wait again. It takes no memory, and O(1) time.
+    /// The sequencer gave the batch no entry: its requests wait again. At every other time nothing changes. It takes no
+    /// memory, and O(1) time.
     pub fn unissued(&mut self)
-        ensures { self.new.waiting.items ≡ self.old.waiting.items }
+        ensures { self.new ≡ unissuing self.old }
     {
         self.at.unseal();
-        self.phase = Phase::Idle;
+        if let Phase::Sealed = self.phase {
+            self.entered = 0;
+            self.phase = Phase::Idle;
+        }
     }
 
-    /// All who wait are refused for the reason, which a front shows where the book is full. It takes no memory, and
-    /// O(n) time for n requests, ranges and mutations that are dropped.
-    pub fn refuse_all(&mut self, why: Refusal, full: Option<GrantMessage<B>>)
-        ensures { self.new.waiting.items ≡ self.old.waiting.items }
+    /// All who wait are refused for the reason, which a front shows where the book is full. Refused as `WrongState`
+    /// while a batch is in flight, while answers are ready, and once it has failed; then nothing changes. It takes no
+    /// memory, and O(n) time for n requests, ranges and mutations that are dropped.
+    pub fn refuse_all(&mut self, why: Refusal, full: Option<GrantMessage<B>>) -> Result<(), Refusal>
+        ensures answers { AnswersExactly result (if is_at_rest self.old then None else Some WrongState)
+            (λ _. self.new ≡ refusing self.old why (option_map (λ (granted : GrantAtFront). granted.front) full)) }
+        ensures refused { OnErr result (self.new ≡ self.old) }
     {
+        if !self.is_at_rest() {
+            return Err(Refusal::WrongState);
+        }
         self.at.refuse_all();
         self.full = match full {
             Some(granted) => Some(granted.into_front()),
@@ -195,11 +308,12 @@ impl<B: ClusterName, W: Drop> CommitMachine<B, W> {
         };
         self.phase = Phase::Refusing(why);
         self.rest();
+        Ok(())
     }
 
     // All who were to be refused are told so, if nobody waits.
     fn rest(&mut self)
-        ensures { self.new.waiting.items ≡ self.old.waiting.items }
+        ensures { self.new ≡ rested self.old }
     {
         if let Phase::Refusing(_) = self.phase
             && self.waiting.is_empty()
@@ -213,28 +327,46 @@ impl<B: ClusterName, W: Drop> CommitMachine<B, W> {
     /// ready. Refused as `Stale` where they are late or come again, and then nothing changes; any other refusal is for
     /// who then has the proxy fail.
     pub fn verdict(&mut self, message: VerdictMessage<B>) -> Result<(), Refusal>
-        ensures { self.new.waiting.items ≡ self.old.waiting.items }
+        ensures late { IfSome (verdict_fault self.old.front self.old.proxy message) (λ why.
+            (result ≡ Err why) × (self.new ≡ self.old)) }
+        ensures taken { OnOk result (self.new ≡ judged self.old (with_verdict self.old.proxy message.verdicts)) }
+        ensures why { IfErr result (λ why. (verdict_fault self.old.front self.old.proxy message ≡ Some why)
+            ⊎ (why ≡ NoMemory) ⊎ (decide_fault (with_verdict self.old.proxy message.verdicts) ≡ Some why)) }
+        ensures waiting { self.new.waiting ≡ self.old.waiting }
+        ensures entered { self.new.entered ≡ self.old.entered }
     {
         self.at.verdict(message)?;
-        self.came = self.came.saturating_add(1);
-        if self.came < self.resolvers {
+        self.left = self.left.saturating_sub(1);
+        if self.left > 0 {
             return Ok(());
         }
+        self.decide()
+    }
+
+    // Decides the batch.
+    fn decide(&mut self) -> Result<(), Refusal>
+        ensures taken { OnOk result (self.new ≡ decided self.old) }
+        ensures why { IfErr result (λ why. (why ≡ NoMemory) ⊎ (decide_fault self.old.proxy ≡ Some why)) }
+        ensures waiting { self.new.waiting ≡ self.old.waiting }
+        ensures entered { self.new.entered ≡ self.old.entered }
+    {
         self.at.decide()?;
         self.messages = self.at.log_messages(self.alloc)?;
-        self.came = 0;
+        self.left = self.logs;
         self.phase = Phase::Logging;
         Ok(())
     }
 
-    /// Takes a log's acknowledgement. Refused as `Stale` where it is late or comes again, and then nothing changes; any
-    /// other refusal is for who then has the proxy fail.
+    /// Takes a log's acknowledgement. Refused as `CommitProxyAt::logged` refuses it, as `Stale` where it is late or
+    /// comes again; then nothing changes. It takes no memory, and O(1) time.
     pub fn logged(&mut self, message: &AckMessage<B>) -> Result<(), Refusal>
-        ensures { self.new.waiting.items ≡ self.old.waiting.items }
+        ensures answers { AnswersExactly result (ack_fault self.old.front self.old.proxy message.now)
+            (λ _. self.new ≡ acknowledged self.old message.now) }
+        ensures refused { OnErr result (self.new ≡ self.old) }
     {
         self.at.logged(message)?;
-        self.came = self.came.saturating_add(1);
-        if self.came >= self.logs {
+        self.left = self.left.saturating_sub(1);
+        if self.left == 0 {
             self.phase = Phase::Logged;
         }
         Ok(())
@@ -242,14 +374,30 @@ impl<B: ClusterName, W: Drop> CommitMachine<B, W> {
 
     /// What is to be reported to the sequencer, once all logs have the batch. Refused as `CommitProxyAt::logged_front`
     /// refuses it.
-    pub fn logged_front(&self) -> Result<LoggedFront<B>, Refusal> {
+    pub fn logged_front(&self) -> Result<LoggedFront<B>, Refusal>
+        ensures { Answers result (all_logged_fault self.now.proxy) (λ logged. logged ≡ self.now.front) }
+    {
         self.at.logged_front()
     }
 
-    /// Takes what says that the batch is reported: the answers to its clients are ready, and the next batch may be
-    /// sealed. Refused as `CommitProxyAt::reported` refuses it.
+    /// Takes what says that the batch is reported: the answers to its clients are ready, each by what became of its
+    /// place, and the next batch may be sealed once they are given. A client for whose answer memory ran out is told
+    /// that it isn't known what became of it. Refused as `Stale` where another front was reported, as `WrongState`
+    /// unless all logs have acknowledged the batch, as `Failed`, and as `NoMemory`; that is for who then has the proxy
+    /// fail.
     pub fn reported(&mut self, reported: &Reported<B>) -> Result<(), Refusal>
-        ensures { self.new.waiting.items ≡ self.old.waiting.items }
+        ensures taken { OnOk result ((report_fault self.old.front self.old.proxy reported.now ≡ None)
+            × AreRepliesFrom self.old.front 0 (answers_in self.old.proxy.stage) self.new.replies
+            × (self.new ≡ record self.old {
+              proxy = finishing self.old.proxy;
+              replies = self.new.replies;
+              entered = 0;
+              phase = phase.Idle;
+            })) }
+        ensures why { IfErr result (λ why.
+            (why ≡ NoMemory) ⊎ (report_fault self.old.front self.old.proxy reported.now ≡ Some why)) }
+        ensures waiting { self.new.waiting ≡ self.old.waiting }
+        ensures entered { OnErr result (self.new.entered ≡ self.old.entered) }
     {
         self.replies = self.at.reported(self.alloc, reported)?;
         self.entered = 0;
@@ -259,48 +407,69 @@ impl<B: ClusterName, W: Drop> CommitMachine<B, W> {
 
     /// The next part that is ready, if there is one. It takes no memory, and O(1) time.
     pub fn ready_part(&mut self) -> Option<PartMessage<B>>
-        ensures { self.new.waiting.items ≡ self.old.waiting.items }
+        ensures first { self.old.parts ≡ option_to_list result ++ self.new.parts }
+        ensures none { IfNone result (self.old.parts ≡ []) }
+        ensures rest { self.new ≡ record self.old { parts = self.new.parts } }
     {
-        self.parts.pop_front()
+        take_first(&mut self.parts)
     }
 
     /// The next log's message that is ready, if there is one. It takes no memory, and O(1) time.
     pub fn ready_message(&mut self) -> Option<LogMessage<B>>
-        ensures { self.new.waiting.items ≡ self.old.waiting.items }
+        ensures first { self.old.messages ≡ option_to_list result ++ self.new.messages }
+        ensures none { IfNone result (self.old.messages ≡ []) }
+        ensures rest { self.new ≡ record self.old { messages = self.new.messages } }
     {
-        self.messages.pop_front()
+        take_first(&mut self.messages)
+    }
+
+    // Whether an answer is ready for who waits first, if anybody waits.
+    fn has_answer(&self) -> bool
+        ensures { result ≡ has_answer self.now }
+    {
+        !self.replies.is_empty() || matches!(self.phase, Phase::Refusing(_) | Phase::Failed)
     }
 
     /// Who waits first with the answer, if one is ready. A proxy that has failed, or refuses all, has one for everybody
-    /// who waits. It takes O(1) time, and no memory but for a share of a front that shows that the book is full; where
+    /// who waits: a failed one tells `CommitUnknownResult` whose batch has an entry or may have one, and `Failed` all
+    /// others. It takes O(1) time, and no memory but for a share of a front that shows that the book is full; where
     /// that lacks memory, who waits is told of that.
     pub fn ready_answer(&mut self) -> Option<(W, CommitReply<B>)>
-        ensures first { IfSome result (λ told. self.old.waiting.items ≡ told.0 ∷ self.new.waiting.items) }
-        ensures failed { self.old.phase ≡ phase.Failed → IfNone result (self.old.waiting.items ≡ []) }
+        ensures first { IfSome result (λ told. self.old.waiting ≡ told.0 ∷ self.new.waiting) }
+        ensures answer { IfSome result (λ told. IsAnswer self.old told.1) }
+        ensures rest { OnSome result (self.new ≡ answered self.old) }
+        ensures none { IfNone result ((self.new ≡ self.old)
+            × ((has_answer self.old ≡ false) ⊎ (self.old.waiting ≡ []))) }
     {
-        let reply = self.ready_reply()?;
-        let who = self.waiting.pop_front()?;
+        if !self.has_answer() {
+            return None;
+        }
+        let who = take_first(&mut self.waiting)?;
+        let reply = self.take_reply();
         self.rest();
         Some((who, reply))
     }
 
-    // The answer of who waits first, if there is one.
-    fn ready_reply(&mut self) -> Option<CommitReply<B>>
-        ensures waiting { self.new.waiting.items ≡ self.old.waiting.items }
-        ensures failed { self.old.phase ≡ phase.Failed → IsSome result }
+    // The answer of who waits first.
+    fn take_reply(&mut self) -> CommitReply<B>
+        requires { has_answer self.old ≡ true }
+        ensures answer { IsAnswer self.old result }
+        ensures left { self.new ≡ without_answer self.old }
     {
-        if let Some(reply) = self.replies.pop_front() {
-            return Some(reply);
+        if let Some(reply) = take_first(&mut self.replies) {
+            return reply;
         }
         match self.phase {
-            Phase::Refusing(why) => Some(self.refusal(why)),
-            Phase::Failed => Some(CommitReply::Refused(self.loss())),
-            _ => None,
+            Phase::Refusing(why) => self.refusal(why),
+            Phase::Failed => CommitReply::Refused(self.loss()),
+            _ => unreachable!(),
         }
     }
 
     // What who is refused is told.
-    fn refusal(&self, why: Refusal) -> CommitReply<B> {
+    fn refusal(&self, why: Refusal) -> CommitReply<B>
+        ensures { IsRefusal why self.now.full result }
+    {
         match &self.full {
             Some(front) => match front.share() {
                 Ok(front) => CommitReply::Full(front),
@@ -311,23 +480,23 @@ impl<B: ClusterName, W: Drop> CommitMachine<B, W> {
     }
 
     // Why who waits first has no outcome of a proxy that failed: it isn't known what becomes of those whose batch has
-    // an entry.
+    // an entry, or may have one.
     fn loss(&mut self) -> Refusal
-        ensures { self.new.waiting.items ≡ self.old.waiting.items }
+        ensures why { result ≡ (if self.old.entered == 0 then Failed else CommitUnknownResult) }
+        ensures left { self.new ≡ record self.old { entered = self.old.entered - 1 } }
     {
-        match self.entered.checked_sub(1) {
-            Some(left) => {
-                self.entered = left;
-                Refusal::CommitUnknownResult
-            }
-            None => Refusal::Failed,
+        if self.entered == 0 {
+            return Refusal::Failed;
         }
+        self.entered -= 1;
+        Refusal::CommitUnknownResult
     }
 
-    /// The proxy has failed, and answers whether a batch of its has an entry that not all may come to know. It takes no
-    /// memory, and O(n) time for n requests, ranges and mutations that are dropped.
+    /// The proxy has failed, and answers whether a batch of its has an entry, or may have one, that not all may come to
+    /// know. It takes no memory, and O(n) time for n requests, ranges and mutations that are dropped.
     pub fn fail(&mut self) -> bool
-        ensures { self.new.waiting.items ≡ self.old.waiting.items }
+        ensures entered { result ≡ nat_lt 0 self.old.entered }
+        ensures failed { self.new ≡ failing self.old }
     {
         self.at.fail();
         self.at.refuse_all();
@@ -336,7 +505,9 @@ impl<B: ClusterName, W: Drop> CommitMachine<B, W> {
     }
 
     /// The number of the last entry that it learnt, if there is one. It takes no memory, and O(1) time.
-    pub fn entry(&self) -> Option<u32> {
+    pub fn entry(&self) -> Option<u32>
+        ensures { IfSome result (λ index. length self.now.front ≡ suc index) }
+    {
         self.at.entry()
     }
 }

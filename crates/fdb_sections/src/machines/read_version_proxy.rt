@@ -1,5 +1,10 @@
 // A read-version proxy that runs: who waits for a version, and the answers that are ready.
-ghost use Rattle.std.specs.Prelude.{◌≡◌, ◌++◌, [], ◌∷◌, length, OnOk, OnErr, IfErr, IfSome};
+ghost use Rattle.std.specs.Prelude.{◌≡◌, ◌⊎◌, ◌-◌, ◌++◌, [], ◌∷◌, nat_lt, length, drop, None, OnOk, OnErr, OnSome};
+ghost use Rattle.std.specs.Prelude.{IfErr};
+ghost use Rattle.std.specs.Prelude.{IfOk, IfSome, IfNone};
+ghost use Rattle.fdb_keys.specs.declared.refusal.Refusal.TheVariants.{NoMemory};
+ghost use Rattle.fdb_sections.specs.declared.messages.reply.GrantReply.TheVariants as reply;
+ghost use Rattle.fdb_sections.specs.ReadVersionMachines.{granting, IsTold};
 
 use crate::messages::reply::GrantReply;
 use crate::name::ClusterName;
@@ -8,6 +13,7 @@ use fdb_keys::{Refusal, Refused};
 use fdb_proxy::GrvCore;
 use std::alloc::Global;
 use std::collections::VecDeque;
+use std::marker::Model;
 
 /// A read-version proxy beside who waits for its answers, in the order of asking.
 #[derive(Drop)]
@@ -20,10 +26,18 @@ pub struct ReadVersionMachine<B: ClusterName, W> {
     granted: usize,
 }
 
+impl<B: ClusterName, W> Model for ReadVersionMachine<B, W> {
+    ghost use Rattle.fdb_sections.specs.ReadVersionMachines.{ReadVersionMachine as Seen};
+
+    ghost Value = { Seen B W };
+
+    ghost view = { λ it. record { waiting = it.waiting.items; answer = it.answer; granted = it.granted } };
+}
+
 impl<B: ClusterName, W: Drop> ReadVersionMachine<B, W> {
     /// A proxy that nobody has asked. It takes no memory, and O(1) time.
     pub fn new(alloc: Global) -> Self
-        ensures { result.waiting.items ≡ [] }
+        ensures { result ≡ record { waiting = []; answer = None; granted = 0 } }
     {
         ReadVersionMachine {
             state: GrvCore::new(alloc),
@@ -37,10 +51,10 @@ impl<B: ClusterName, W: Drop> ReadVersionMachine<B, W> {
     /// others. Refused only as `NoMemory`; then who asks is handed back, and nobody else waits than before. It takes
     /// O(1) time but for growth.
     pub fn ask(&mut self, session: u32, mark: u64, who: W) -> Result<(), Refused<W>>
-        ensures taken { OnOk result (self.new.waiting.items ≡ self.old.waiting.items ++ who ∷ []) }
-        ensures refused { OnErr result (self.new.waiting.items ≡ self.old.waiting.items) }
-        ensures back { IfErr result (λ refused. refused.back ≡ who) }
-        ensures later { self.new.granted ≡ self.old.granted }
+        ensures taken { OnOk result (self.new
+            ≡ record self.old { waiting = self.old.waiting ++ who ∷ [] }) }
+        ensures refused { OnErr result (self.new ≡ self.old) }
+        ensures back { IfErr result (λ refused. (refused.back ≡ who) × (refused.why ≡ NoMemory)) }
     {
         if self.waiting.reserve(1).is_err() || self.state.ask(session, mark).is_err() {
             return Err(Refused {
@@ -57,8 +71,8 @@ impl<B: ClusterName, W: Drop> ReadVersionMachine<B, W> {
     /// Takes what the sequencer granted, or why it didn't: the answers of all who wait are ready. It takes no memory,
     /// and O(n) time for the n who wait.
     pub fn granted(&mut self, granted: Result<GrantMessage<B>, Refusal>)
-        ensures waiting { self.new.waiting.items ≡ self.old.waiting.items }
-        ensures all { self.new.granted ≡ length self.old.waiting.items }
+        ensures version { IfOk granted (λ granted. self.new ≡ granting self.old (reply.Granted granted)) }
+        ensures refused { IfErr granted (λ why. self.new ≡ granting self.old (reply.Refused why)) }
     {
         self.granted = self.waiting.len();
         self.answer = Some(match granted {
@@ -73,18 +87,34 @@ impl<B: ClusterName, W: Drop> ReadVersionMachine<B, W> {
         });
     }
 
+    /// Whether somebody waits for whom no version was granted yet. It takes no memory, and O(1) time.
+    pub fn waits(&self) -> bool
+        ensures { result ≡ nat_lt self.now.granted (length self.now.waiting) }
+    {
+        self.granted < self.waiting.len()
+    }
+
     /// Who waits first with the answer, if one is ready. It takes O(1) time, and no memory but for a share of a front;
     /// where that lacks memory, who waits is told of that.
     pub fn ready(&mut self) -> Option<(W, GrantReply<B>)>
-        ensures first { IfSome result (λ told. self.old.waiting.items ≡ told.0 ∷ self.new.waiting.items) }
+        ensures first { IfSome result (λ told. self.old.waiting ≡ told.0 ∷ self.new.waiting) }
+        ensures answer { IfSome result (λ told. IsTold self.old.answer told.1) }
+        ensures counted { OnSome result (self.new
+            ≡ record self.old { waiting = drop 1 self.old.waiting; granted = self.old.granted - 1 }) }
+        ensures none { IfNone result ((self.new ≡ self.old) × ((self.old.granted ≡ 0) ⊎ (self.old.waiting ≡ []))) }
     {
-        self.granted = self.granted.checked_sub(1)?;
+        if self.granted == 0 {
+            return None;
+        }
         let who = self.waiting.pop_front()?;
+        self.granted -= 1;
         Some((who, self.reply()))
     }
 
     // What who waits first is told.
-    fn reply(&self) -> GrantReply<B> {
+    fn reply(&self) -> GrantReply<B>
+        ensures { IsTold self.now.answer result }
+    {
         match &self.answer {
             Some(GrantReply::Granted(granted)) => match granted.share() {
                 Ok(granted) => GrantReply::Granted(granted),

@@ -1,5 +1,10 @@
 // A resolver that runs: parts that wait for those before them, and the verdicts that are ready.
-ghost use Rattle.std.specs.Prelude.{◌≡◌, None};
+ghost use Rattle.std.specs.Prelude.{◌≡◌, None, Ok, IfErr, IfSome, OnOk};
+ghost use Rattle.std.specs.FinMap.{empty};
+ghost use Rattle.std.specs.Option.{option_map};
+ghost use Rattle.fdb_keys.specs.declared.refusal.Refusal.TheVariants.{NoMemory};
+ghost use Rattle.fdb_sections.specs.declared.machines.resolver.SentPart.{SentPart as ASentPart};
+ghost use Rattle.fdb_sections.specs.ResolverMachines.{keeping, finding, TakesTurn};
 
 use crate::making::why_of;
 use crate::messages::part_message::PartMessage;
@@ -38,7 +43,9 @@ pub struct ResolverMachine<B: ClusterName> {
 
 impl<B: ClusterName> ResolverMachine<B> {
     /// The resolver, to which no part came. It takes no memory, and O(1) time.
-    pub fn new(alloc: Global, at: ResolverAt<B>) -> Self {
+    pub fn new(alloc: Global, at: ResolverAt<B>) -> Self
+        ensures { result ≡ record { at = at; early = empty; turn = None } }
+    {
         ResolverMachine {
             at,
             early: Room::new(alloc),
@@ -48,14 +55,20 @@ impl<B: ClusterName> ResolverMachine<B> {
 
     /// Takes a part, which waits until its turn comes. One that comes again is dropped. Refused only as `NoMemory`, and
     /// then the resolver can't go on, as the part is lost. It takes O(log n) time for n parts that wait.
-    pub fn take(&mut self, sent: SentPart<B>) -> Result<(), Refusal> {
+    pub fn take(&mut self, sent: SentPart<B>) -> Result<(), Refusal>
+        ensures taken { OnOk result (self.new ≡ finding (keeping self.old sent)) }
+        ensures refused { IfErr result (λ why. why ≡ NoMemory) }
+    {
         self.keep(sent)?;
         self.find_turn();
         Ok(())
     }
 
     // Keeps the part until its turn comes. One that comes again is dropped.
-    fn keep(&mut self, sent: SentPart<B>) -> Result<(), Refusal> {
+    fn keep(&mut self, sent: SentPart<B>) -> Result<(), Refusal>
+        ensures kept { OnOk result (self.new ≡ keeping self.old sent) }
+        ensures refused { IfErr result (λ why. why ≡ NoMemory) }
+    {
         let prev = sent.message.prev();
         let Err(refused) = self.early.put(prev, sent) else {
             return Ok(());
@@ -67,14 +80,18 @@ impl<B: ClusterName> ResolverMachine<B> {
     }
 
     // Finds the part whose turn it is, where none is found already.
-    fn find_turn(&mut self) {
+    fn find_turn(&mut self)
+        ensures { self.new ≡ finding self.old }
+    {
         if self.turn.is_none() {
             self.turn = self.early.ready(self.at.version());
         }
     }
 
     /// The number of the entry whose part's turn it is, if that came. It takes no memory, and O(1) time.
-    pub fn next(&self) -> Option<u32> {
+    pub fn next(&self) -> Option<u32>
+        ensures { result ≡ option_map (λ (sent : ASentPart B). sent.message.part.index) self.now.turn }
+    {
         match &self.turn {
             Some(sent) => Some(sent.message.entry()),
             None => None,
@@ -84,7 +101,10 @@ impl<B: ClusterName> ResolverMachine<B> {
     /// Takes the part whose turn it is into account, and gives the verdicts on it, if it came. Refused as
     /// `ResolverAt::take` refuses it; then the resolver can't go on. It takes what that takes, and O(log n) for n parts
     /// that wait.
-    pub fn ready(&mut self) -> Result<Option<SentVerdicts<B>>, Refusal> {
+    pub fn ready(&mut self) -> Result<Option<SentVerdicts<B>>, Refusal>
+        ensures none { self.old.turn ≡ None → (result ≡ Ok None) × (self.new ≡ self.old) }
+        ensures turn { IfSome self.old.turn (λ sent. TakesTurn self.old sent result self.new) }
+    {
         let Some(sent) = self.turn.take() else {
             return Ok(None);
         };

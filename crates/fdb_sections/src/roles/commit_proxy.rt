@@ -1,4 +1,6 @@
-ghost use Rattle.std.specs.Prelude.{◌≡◌, ◌==◌, ◌≤◌, ⊤, true, not, [], take, map, length, None, IfOk, OnOk, OnErr};
+ghost use Rattle.std.specs.Prelude.{◌≡◌, ◌==◌, ◌≤◌, ◌⊎◌, ⊤, true, not, [], suc, take, map, length, None, Some};
+ghost use Rattle.std.specs.Prelude.{IfOk, OnOk, OnErr, IfErr, IfSome, if◌then◌else◌};
+ghost use Rattle.fdb_keys.specs.declared.refusal.Refusal.TheVariants.{NoMemory, Stale};
 ghost use Rattle.fdb_keys.specs.Answers.{Answers, AnswersExactly, AnswersOrHandsBack, AnswersExactlyOrHandsBack};
 ghost use Rattle.fdb_txn.specs.Limits.{place_limit};
 ghost use Rattle.fdb_txn.specs.book.Book.{last_version};
@@ -10,6 +12,8 @@ ghost use Rattle.fdb_proxy.specs.CommitProxies.{decide_fault, deciding, messages
 ghost use Rattle.fdb_proxy.specs.CommitProxies.{answers_in, finishing};
 ghost use Rattle.fdb_sections.specs.CommitProxiesAtFronts.{verdict_fault, ack_fault};
 ghost use Rattle.fdb_sections.specs.CommitProxiesAtFronts.{AreLastParts, AreLastMessages, AreOutcomes};
+ghost use Rattle.fdb_sections.specs.CommitMachines.{sent_parts, sent_messages, report_fault};
+ghost use Rattle.fdb_sections.specs.CommitMachines.{AreRepliesFrom, IsReplyTo};
 ghost use Rattle.fdb_sections.specs.Messages.{IsLastPart, IsLastMessage};
 ghost use Rattle.fdb_sections.specs.Receipts.{IsOutcome};
 ghost use Rattle.fdb_sections.specs.Ticketing.{AnswersTicket, LeftByTicket};
@@ -215,7 +219,10 @@ impl<B: ClusterName> CommitProxyAt<B> {
     }
 
     /// What each resolver is sent of the batch, in order: its part, with a share of the front. Refused as `parts` is.
-    pub(crate) fn part_messages(&self, alloc: Global) -> Result<VecDeque<PartMessage<B>>, Refusal> {
+    pub(crate) fn part_messages(&self, alloc: Global) -> Result<VecDeque<PartMessage<B>>, Refusal>
+        ensures { Answers result (parts_fault self.now.state.proxy)
+            (λ messages. messages.items ≡ sent_parts self.now.front (parts_in self.now.state.proxy.stage)) }
+    {
         let parts = self.parts()?;
         let mut messages = VecDeque::new(alloc);
         for part in parts.into_vec() {
@@ -273,7 +280,10 @@ impl<B: ClusterName> CommitProxyAt<B> {
     }
 
     /// What each log is sent of the batch, in order: its message, with a share of the front. Refused as `messages` is.
-    pub(crate) fn log_messages(&self, alloc: Global) -> Result<VecDeque<LogMessage<B>>, Refusal> {
+    pub(crate) fn log_messages(&self, alloc: Global) -> Result<VecDeque<LogMessage<B>>, Refusal>
+        ensures { Answers result (messages_fault self.now.state.proxy)
+            (λ messages. messages.items ≡ sent_messages self.now.front (messages_of self.now.state.proxy)) }
+    {
         let of_batch = self.messages()?;
         let mut messages = VecDeque::new(alloc);
         for message in of_batch.into_vec() {
@@ -320,13 +330,15 @@ impl<B: ClusterName> CommitProxyAt<B> {
 
     // Refused as `Stale` unless it is the own front that was reported.
     fn check_reported(&self, reported: &Reported<B>) -> Result<(), Refusal>
-        ensures { OnOk result (reported.now ≡ self.now.front) }
+        ensures { AnswersExactly result (if length reported.now == length self.now.front then None else Some Stale)
+            (λ _. reported.now ≡ self.now.front) }
     {
-        if reported.front().len() != self.front.len() {
-            return Err(Refusal::Stale);
-        }
         self.front.know_one_book(reported.front());
-        Ok(())
+        if reported.front().len() == self.front.len() {
+            Ok(())
+        } else {
+            Err(Refusal::Stale)
+        }
     }
 
     /// The batch is done, whose front was reported: what the client of each of its places is told, by place. The next
@@ -337,6 +349,12 @@ impl<B: ClusterName> CommitProxyAt<B> {
         alloc: Global,
         reported: &Reported<B>,
     ) -> Result<VecDeque<CommitReply<B>>, Refusal>
+        ensures taken { IfOk result (λ replies.
+            (report_fault self.old.front self.old.state.proxy reported.now ≡ None)
+            × AreRepliesFrom self.old.front 0 (answers_in self.old.state.proxy.stage) replies.items
+            × (self.new.state.proxy ≡ finishing self.old.state.proxy)) }
+        ensures why { IfErr result (λ why.
+            (why ≡ NoMemory) ⊎ (report_fault self.old.front self.old.state.proxy reported.now ≡ Some why)) }
         ensures front { self.new.front ≡ self.old.front }
     {
         self.check_reported(reported)?;
@@ -355,6 +373,9 @@ impl<B: ClusterName> CommitProxyAt<B> {
     ) -> Result<(), Refusal>
         requires reported { reported.now ≡ self.now.front }
         requires by_rule { AreOutcomes B.config self.now.front answers }
+        requires nothing { replies.old.items ≡ [] }
+        ensures added { OnOk result (AreRepliesFrom self.now.front 0 answers replies.new.items) }
+        ensures why { IfErr result (λ why. why ≡ NoMemory) }
     {
         for (place, (_id, outcome)) in answers.into_vec().into_iter().enumerate() {
             let reply = self.reply_of(reported, place, outcome);
@@ -368,6 +389,7 @@ impl<B: ClusterName> CommitProxyAt<B> {
         requires reported { reported.now ≡ self.now.front }
         requires by_rule { IsOutcome B.config.resolver_splits
             (record { front = self.now.front; place = place; outcome = outcome }) }
+        ensures { IsReplyTo self.now.front place outcome result }
     {
         let Ok(place) = u32::try_from(place) else {
             return CommitReply::Refused(Refusal::CommitUnknownResult);
@@ -379,7 +401,9 @@ impl<B: ClusterName> CommitProxyAt<B> {
     }
 
     /// The number of the last entry that it learnt, if there is one. It takes no memory, and O(1) time.
-    pub(crate) fn entry(&self) -> Option<u32> {
+    pub(crate) fn entry(&self) -> Option<u32>
+        ensures { IfSome result (λ index. length self.now.front ≡ suc index) }
+    {
         let last = self.front.len().checked_sub(1)?;
         u32::try_from(last).ok()
     }

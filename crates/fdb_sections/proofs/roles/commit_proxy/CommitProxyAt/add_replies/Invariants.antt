@@ -1,6 +1,6 @@
 use Rattle.std.specs.Iterator.Adapters.{enumerate_source, enumerate_count}
 use Rattle.std.specs.Vec.Iter.{into_iter_items}
-use Rattle.fdb_sections.proofs.ReplyLemmas.{AreOutcomesFrom}
+use Rattle.fdb_sections.proofs.ReplyLemmas.{AreOutcomesFrom, AreToldSo}
 use Rattle.fdb_sections.proofs.roles.commit_proxy.CommitProxyAt.add_replies.Given as goal
 
 abbrev pub invariant-loop-place : goal.invariant-loop-place
@@ -9,4 +9,6 @@ invariant-loop-place g l = record {
   ends : (goal.iterator-loop-place g).is_finite l.place-iterator;
   left : AreOutcomesFrom g.B.ClusterName.config l.self.front (enumerate_count l.place-iterator)
       (into_iter_items (enumerate_source l.place-iterator));
+  told : AreToldSo l.self.front (enumerate_count l.place-iterator)
+      (into_iter_items (enumerate_source l.place-iterator)) l.fn.answers l.replies.items;
 }

@@ -1,0 +1,219 @@
+//! A session whose commits are submitted, and of which it is told later.
+ghost use Rattle.std.specs.Prelude.{◌≡◌, max, [], None, Some, Err, IfOk, IfErr, IfSome, OnErr};
+ghost use Rattle.std.specs.Prelude.{if◌then◌else◌};
+ghost use Rattle.std.specs.Option.{option_map};
+ghost use Rattle.fdb_keys.specs.Answers.{Answers};
+ghost use Rattle.fdb_keys.specs.declared.refusal.Refusal.TheVariants.{NoTransaction, WrongState, CommitUnknownResult};
+ghost use Rattle.fdb_mutations.specs.Mutations.{mutation_fault};
+ghost use Rattle.fdb_storage.specs.Shards.{key_fault};
+ghost use Rattle.fdb_client.specs.Programs.{program, decided, commit_request_of};
+ghost use Rattle.fdb_sections.specs.declared.client.Asked.TheVariants as asks;
+ghost use Rattle.fdb_client.specs.TxnState.{with_op};
+ghost use Rattle.fdb_client.specs.declared.program.Op.TheVariants as operation;
+ghost use Rattle.fdb_client.specs.declared.program.Reply.TheVariants as answer;
+ghost use Rattle.fdb_client.specs.declared.program.Transcript.{Transcript as ATranscript};
+ghost use Rattle.fdb_roles.specs.Sessions.{OfOpen};
+ghost use Rattle.fdb_sections.specs.Clients.{unless_submitted, Asks, MayEnd};
+ghost use Rattle.fdb_sections.specs.Commits.{CommitEnds};
+ghost use Rattle.fdb_sections.specs.Reading.{HasRead, RefusedBy};
+ghost use Rattle.fdb_sections.specs.Sessions.{begin_fault, beginning, with_current};
+
+use crate::messages::reply::CommitReply;
+use crate::name::ClusterName;
+use crate::receipt::Receipt;
+use crate::roles::sequencer::GrantMessage;
+use crate::roles::shard::ShardAt;
+use crate::session_state::SessionState;
+use crate::session_state::settling::Ended;
+use crate::session_state::submitted::Submitted;
+use bytes::Bytes;
+use fdb_book::Book;
+use fdb_client::Transcript;
+use fdb_keys::{Key, Refusal, Refused};
+use fdb_mutations::Mutation;
+use fdb_txn::Sealed;
+use std::alloc::Global;
+use std::marker::Model;
+use std::mem;
+
+/// What a session comes to that is to commit.
+#[derive(Drop)]
+pub enum Asked<B: ClusterName> {
+    /// Its transaction wrote nothing, and has its receipt.
+    Acknowledged(Receipt<B>),
+    /// Its commit proxy is to be sent the request.
+    ToCommit(Sealed),
+}
+
+/// A session beside what it submitted, as long as it isn't told what became of that.
+#[derive(Drop)]
+pub struct Client<B: ClusterName> {
+    state: SessionState<B>,
+    submitted: Option<Submitted>,
+}
+
+impl<B: ClusterName> Model for Client<B> {
+    ghost use Rattle.std.specs.Option.{option_map};
+    ghost use Rattle.fdb_sections.specs.declared.session_state.submitted.Submitted.{Submitted as AsSubmitted};
+    ghost use Rattle.fdb_sections.specs.Clients.{Client as Seen, IsClient};
+
+    ghost Value = { Seen };
+
+    ghost view = { λ it. record {
+      session = it.state;
+      submitted = option_map (λ (one : AsSubmitted). one.transcript) it.submitted;
+    } };
+
+    ghost invariant = { λ it. IsClient B.config.resolver_splits (record {
+      session = it.state;
+      submitted = option_map (λ (one : AsSubmitted). one.transcript) it.submitted;
+    }) };
+}
+
+impl<B: ClusterName> Client<B> {
+    /// The session of the number, which has seen nothing and began nothing. Refused only as `NoMemory`.
+    pub fn new(alloc: Global, book: &Book<B>, number: u32) -> Result<Self, Refusal>
+        ensures { Answers result None (λ it. it ≡ record {
+          session = record { number = number; next_number = 0; front = []; mark = 0; current = None };
+          submitted = None;
+        }) }
+    {
+        Ok(Client {
+            state: SessionState::new(alloc, book, number)?,
+            submitted: None,
+        })
+    }
+
+    /// The greatest version that the session knows of a receipt. It takes no memory, and O(1) time.
+    pub fn mark(&self) -> u64
+        ensures { result ≡ self.now.session.mark }
+    {
+        self.state.mark()
+    }
+
+    /// The version that the open transaction reads at, if there is one. It takes no memory, and O(1) time.
+    pub fn read_version(&self) -> Option<u64>
+        ensures { result
+            ≡ option_map (λ (transcript : ATranscript). transcript.read_version) self.now.session.current }
+    {
+        self.state.read_version()
+    }
+
+    /// Opens a transaction, as `SessionState::begin` does and refuses. Refused as `WrongState` while the session isn't
+    /// told what became of the one that it submitted; then nothing changes.
+    pub fn begin(&mut self, alloc: Global, granted: &GrantMessage<B>) -> Result<u64, Refusal>
+        ensures answers { Answers result (unless_submitted self.old (begin_fault self.old.session)) (λ version.
+            (version ≡ max granted.now.committed self.old.session.mark)
+            × (self.new ≡ record self.old { session = beginning self.old.session granted.now })) }
+        ensures refused { OnErr result (self.new ≡ self.old) }
+    {
+        if self.submitted.is_some() {
+            return Err(Refusal::WrongState);
+        }
+        self.state.begin(alloc, granted)
+    }
+
+    /// The open transaction buffers a copy of the mutation, as `SessionState::write` does and refuses.
+    pub fn write(&mut self, mutation: &Mutation) -> Result<(), Refusal>
+        ensures answers { OfOpen self.old.session.current result (λ transcript.
+            Answers result (mutation_fault mutation.now) (λ _. self.new ≡ record self.old {
+              session = with_current self.old.session
+                  (Some (with_op transcript (operation.Write mutation.now) answer.Done));
+            })) }
+        ensures refused { OnErr result (self.new ≡ self.old) }
+    {
+        self.state.write(mutation)
+    }
+
+    /// The value of the key after the open transaction's own writes, as `SessionState::get_at` gives and refuses it.
+    pub fn get_at(
+        &mut self,
+        at: &ShardAt<B>,
+        key: &Key,
+        is_snapshot: bool,
+    ) -> Result<Option<Bytes>, Refusal>
+        ensures answered { IfOk result (λ value. HasRead B.config.resolver_splits self.old.session
+            (operation.Get key.now is_snapshot) (answer.Value value) self.new.session) }
+        ensures none { self.old.session.current ≡ None → result ≡ Err NoTransaction }
+        ensures fault { IfSome self.old.session.current (λ transcript. RefusedBy result
+            (if decided (program transcript.ops) key.now then None
+            else key_fault at.now.shard key.now transcript.read_version)) }
+        ensures submitted { self.new.submitted ≡ self.old.submitted }
+        ensures refused { OnErr result (self.new ≡ self.old) }
+    {
+        self.state.get_at(at, key, is_snapshot)
+    }
+
+    /// Ends the open transaction. Where it wrote nothing, it has its receipt, at its read version. Else it is
+    /// submitted: it gives the request for the session's commit proxy, and `settle` is to be called with what that
+    /// tells.
+    ///
+    /// Refused as `NoTransaction` where none is open, as `TransactionTooLarge` where it has more than 10,000,000 bytes,
+    /// and as `NoMemory`; then nothing changes, and none is handed back. Where memory runs out for a copy of the
+    /// request, the transcript is handed back as `CommitUnknownResult`, and nothing was submitted.
+    pub fn commit(&mut self) -> Result<Asked<B>, Refused<Option<Transcript>>>
+        ensures { Asks B.config self.old result self.new }
+    {
+        match self.state.finish_or_receipt() {
+            Ok(Ended::Acknowledged(receipt)) => {
+                Ok(Asked::Acknowledged(self.state.acknowledge(receipt)))
+            }
+            Ok(Ended::ToCommit(sealed, transcript)) => self.submit(sealed, transcript),
+            Err(why) => Err(Refused { why, back: None }),
+        }
+    }
+
+    // Keeps what is submitted, and gives the request of it.
+    fn submit(
+        &mut self,
+        sealed: Sealed,
+        transcript: Transcript,
+    ) -> Result<Asked<B>, Refused<Option<Transcript>>>
+        requires none { self.old.submitted ≡ None }
+        requires request { sealed ≡ commit_request_of transcript }
+        requires may { MayEnd B.config.resolver_splits self.old.session transcript }
+        ensures asked { IfOk result (λ asked. (asked ≡ asks.ToCommit sealed)
+            × (self.new ≡ record self.old { submitted = Some transcript })) }
+        ensures back { IfErr result (λ refused. (refused.why ≡ CommitUnknownResult)
+            × (refused.back ≡ Some transcript) × (self.new ≡ self.old)) }
+    {
+        match Submitted::new(&sealed, transcript) {
+            Ok(submitted) => {
+                drop(mem::replace(&mut self.submitted, Some(submitted)));
+                Ok(Asked::ToCommit(sealed))
+            }
+            Err(transcript) => {
+                drop(sealed);
+                Err(Refused {
+                    why: Refusal::CommitUnknownResult,
+                    back: Some(transcript),
+                })
+            }
+        }
+    }
+
+    /// Ends the transaction that was submitted by what the session's commit proxy tells, as `SessionState::end` does.
+    /// Refused as `WrongState` where none is submitted; then nothing changes, and nothing is handed back.
+    pub fn settle(
+        &mut self,
+        book: u32,
+        told: CommitReply<B>,
+    ) -> Result<Receipt<B>, Refused<Option<Transcript>>>
+        requires book { book ≡ B.config.book }
+        ensures none { self.old.submitted ≡ None
+            → (result ≡ Err (record { why = WrongState; back = None })) × (self.new ≡ self.old) }
+        ensures ends { IfSome self.old.submitted (λ transcript. (self.new.submitted ≡ None)
+            × CommitEnds B.config self.old.session transcript result self.new.session) }
+    {
+        match mem::replace(&mut self.submitted, None) {
+            Some(submitted) => self.state.end(book, submitted, told),
+            None => {
+                drop(told);
+                Err(Refused {
+                    why: Refusal::WrongState,
+                    back: None,
+                })
+            }
+        }
+    }
+}

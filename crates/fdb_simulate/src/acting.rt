@@ -1,0 +1,452 @@
+// Acts of clients and roles, each of which sends what it has to send.
+use crate::player::Wish;
+use crate::sim::{Sim, count_of};
+use crate::tally::Tally;
+use bytes::Bytes;
+use fdb_keys::{Key, KeyRange, Refusal};
+use fdb_mutations::Mutation;
+use fdb_sections::{
+    Asked, Client, ClusterName, CommitReply, LogState, Next, PeekMessage, ShardState,
+};
+use fdb_txn::{Move, Sealed, WINDOW};
+use std::alloc::{AllocError, Global};
+
+// How many messages a shard pulls at once.
+const PULL_LIMIT: u32 = 256;
+
+// The key has the number from now on. Refused as `NoMemory`.
+fn set_to(alloc: Global, key: &Key, number: u64) -> Result<Mutation, Refusal> {
+    let value = Bytes::copy_from_slice(alloc, &number.to_le_bytes())?;
+    let key = Key::new(alloc, key.bytes())?;
+    Ok(Mutation::Set { key, value })
+}
+
+// The client's open transaction sets the key to the number.
+fn write_number<B: ClusterName>(
+    client: &mut Client<B>,
+    alloc: Global,
+    key: &Key,
+    number: u64,
+) -> Result<(), Refusal> {
+    let mutation = set_to(alloc, key, number)?;
+    let written = client.write(&mutation);
+    drop(mutation);
+    written
+}
+
+// The client's open transaction reads the key at its shard, which has come to its read version.
+fn read_key<B: ClusterName>(
+    client: &mut Client<B>,
+    shard: &ShardState<B>,
+    version: u64,
+    key: &Key,
+) -> Result<(), Refusal> {
+    shard.check(version)?;
+    drop(client.get_at(&shard.at, key, false)?);
+    Ok(())
+}
+
+// A shard pulls what its log has for it. Answers whether that was anything.
+fn pull<B: ClusterName>(
+    log: &mut LogState<B>,
+    shard: &mut ShardState<B>,
+    tag: u32,
+) -> Result<bool, Refusal> {
+    let given = log.peek(tag, shard.version(), PULL_LIMIT)?;
+    let taken = apply(log, shard, tag, &given);
+    drop(given);
+    taken
+}
+
+// It applies what the log gave, and has it dropped there.
+fn apply<B: ClusterName>(
+    log: &mut LogState<B>,
+    shard: &mut ShardState<B>,
+    tag: u32,
+    given: &PeekMessage<B>,
+) -> Result<bool, Refusal> {
+    if given.is_empty() {
+        return Ok(false);
+    }
+    shard.apply(given)?;
+    log.pop(tag, given.through())?;
+    Ok(true)
+}
+
+// A shard goes on, and forgets what lies below the floor. Where the log has ended and has no more, or the shard fails,
+// it ends. Answers whether anything changed.
+fn go_on<B: ClusterName>(
+    log: &mut LogState<B>,
+    shard: &mut ShardState<B>,
+    tag: u32,
+    floor: u64,
+) -> bool {
+    if shard.ended.is_some() || log.is_behind(shard.version()) {
+        return false;
+    }
+    match pull(log, shard, tag) {
+        Ok(true) => {
+            if 0 < floor && floor <= shard.version() {
+                let _ = shard.forget(floor);
+            }
+        }
+        Ok(false) => shard.end(log.ended().unwrap_or(Refusal::Failed)),
+        Err(_why) => shard.end(Refusal::Failed),
+    }
+    true
+}
+
+impl<B: ClusterName> Sim<B> {
+    /// Draws an act, and does it. It fails only where memory runs out.
+    pub(crate) fn act(&mut self) -> Result<(), AllocError> {
+        match self.draw(16) {
+            0 | 1 | 2 => {
+                let count = count_of(self.players.len());
+                let number = self.draw(count);
+                self.act_player(number);
+                Ok(())
+            }
+            3 | 4 => {
+                let count = count_of(self.roles.commits.len());
+                let number = self.draw(count);
+                self.act_commit(number)
+            }
+            5 => {
+                let count = count_of(self.roles.begins.len());
+                let number = self.draw(count);
+                self.act_begin(number)
+            }
+            6 => {
+                let count = count_of(self.roles.resolvers.len());
+                let number = self.draw(count);
+                self.act_resolver(number)
+            }
+            7 => {
+                let count = count_of(self.roles.shards.len());
+                let number = self.draw(count);
+                self.act_shard(number);
+                Ok(())
+            }
+            8 => {
+                self.act_sequencer();
+                Ok(())
+            }
+            _ => self.deliver(),
+        }
+    }
+
+    // Keys between two that are drawn are moved, now and then.
+    fn act_sequencer(&mut self) {
+        let is_due = self.draw(8) == 0;
+        let count = count_of(self.keys.len());
+        let first = self.draw(count);
+        let count = count_of(self.keys.len());
+        let last = self.draw(count);
+        let count = count_of(self.roles.resolvers.len());
+        let to = self.draw(count);
+        let (Some(begin), Some(end)) = (self.keys.get(first as usize), self.keys.get(last as usize))
+        else {
+            return;
+        };
+        if !is_due {
+            return;
+        }
+        if let Ok(range) = KeyRange::new(self.alloc, begin.bytes(), end.bytes()) {
+            let _ = self.roles.sequencer.move_to(Move { range, to });
+        }
+    }
+
+    /// A client does what it does next.
+    pub(crate) fn act_player(&mut self, number: u32) {
+        let Some(player) = self.players.get(number as usize) else {
+            return;
+        };
+        match player.wish {
+            Wish::Begin => self.ask(number),
+            Wish::Read => self.read(number),
+            Wish::Write => self.write(number),
+            Wish::Commit => self.commit(number),
+            Wish::Grant | Wish::Outcome => {}
+        }
+    }
+
+    // The client wishes something else now, which changes what is going on.
+    pub(crate) fn wish(&mut self, number: u32, wish: Wish) {
+        self.count_act();
+        if let Some(player) = self.players.get_mut(number as usize) {
+            player.wish = wish;
+        }
+    }
+
+    // It asks for a read version, unless the play is over or the database is closed.
+    fn ask(&mut self, number: u32) {
+        if self.is_over || self.is_closed {
+            return;
+        }
+        let greatest = self.told.greatest;
+        let count = self.roles.begins.len();
+        let Some(player) = self.players.get_mut(number as usize) else {
+            return;
+        };
+        player.seen = greatest;
+        if count == 0 {
+            return;
+        }
+        let Some(proxy) = self.roles.begins.get_mut(number as usize % count) else {
+            return;
+        };
+        if proxy.ask(number, player.client.mark(), number).is_ok() {
+            self.wish(number, Wish::Grant);
+        }
+    }
+
+    // It reads a key that is drawn, once the key's shard has come to its read version.
+    fn read(&mut self, number: u32) {
+        let count = count_of(self.keys.len());
+        let drawn = self.draw(count);
+        let Some(key) = self.keys.get(drawn as usize) else {
+            return;
+        };
+        let Some(player) = self.players.get_mut(number as usize) else {
+            return;
+        };
+        let version = player.client.read_version().unwrap_or(0);
+        let tag = self.roles.shard_map.shard_of(key);
+        let Some(shard) = self.roles.shards.get(tag as usize) else {
+            return;
+        };
+        if shard.is_behind(version) {
+            return;
+        }
+        match read_key(&mut player.client, shard, version, key) {
+            Ok(()) => self.wish(number, Wish::Write),
+            Err(_why) => self.refuse(number),
+        }
+    }
+
+    // It writes a key that is drawn.
+    fn write(&mut self, number: u32) {
+        let count = count_of(self.keys.len());
+        let drawn = self.draw(count);
+        let Some(key) = self.keys.get(drawn as usize) else {
+            return;
+        };
+        let Some(player) = self.players.get_mut(number as usize) else {
+            return;
+        };
+        match write_number(&mut player.client, self.alloc, key, self.told.tally.acts) {
+            Ok(()) => self.wish(number, Wish::Commit),
+            Err(_why) => self.refuse(number),
+        }
+    }
+
+    // It is refused before it submitted anything, and begins anew.
+    fn refuse(&mut self, number: u32) {
+        Tally::add(&mut self.told.tally.refused);
+        self.wish(number, Wish::Begin);
+    }
+
+    // It asks for a commit.
+    fn commit(&mut self, number: u32) {
+        let Some(player) = self.players.get_mut(number as usize) else {
+            return;
+        };
+        match player.client.commit() {
+            Ok(Asked::Acknowledged(receipt)) => self.note_receipt(number, receipt),
+            Ok(Asked::ToCommit(sealed)) => self.submit(number, sealed),
+            Err(refused) => self.note_refused(number, refused),
+        }
+    }
+
+    // Its commit proxy takes the request, or refuses it.
+    fn submit(&mut self, number: u32, sealed: Sealed) {
+        let count = self.roles.commits.len();
+        if count == 0 || self.is_closed {
+            drop(sealed);
+            return self.settle(number, CommitReply::Refused(Refusal::Closed));
+        }
+        let Some(proxy) = self.roles.commits.get_mut(number as usize % count) else {
+            return drop(sealed);
+        };
+        match proxy.submit(sealed, number) {
+            Ok(()) => self.wish(number, Wish::Outcome),
+            Err(refused) => self.settle(number, CommitReply::Refused(refused.why)),
+        }
+    }
+
+    /// A commit proxy does what it wants next, if that is something that it can do by itself.
+    pub(crate) fn act_commit(&mut self, number: u32) -> Result<(), AllocError> {
+        let Some(proxy) = self.roles.commits.get(number as usize) else {
+            return Ok(());
+        };
+        match proxy.next() {
+            Next::Seal if self.is_closed => {
+                self.close(number);
+                Ok(())
+            }
+            Next::Seal => self.seal(number),
+            Next::Part => self.send_part(number),
+            Next::Message => self.send_message(number),
+            Next::Report => self.send_logged(number),
+            Next::Answer => self.send_outcome(number),
+            Next::Request
+            | Next::Entry
+            | Next::Verdicts(_)
+            | Next::Acknowledgement(_)
+            | Next::End => Ok(()),
+        }
+    }
+
+    // All who wait for a proxy of a database that is closed are refused.
+    fn close(&mut self, number: u32) {
+        self.count_act();
+        let Some(proxy) = self.roles.commits.get_mut(number as usize) else {
+            return;
+        };
+        if proxy.refuse_all(Refusal::Closed, None).is_err() {
+            self.fail(number);
+        }
+    }
+
+    fn seal(&mut self, number: u32) -> Result<(), AllocError> {
+        let Some(proxy) = self.roles.commits.get_mut(number as usize) else {
+            return Ok(());
+        };
+        Tally::add(&mut self.told.tally.acts);
+        match proxy.seal() {
+            Ok(batch) => self.pools.batches.put(number, batch),
+            Err(_why) => {
+                self.fail(number);
+                Ok(())
+            }
+        }
+    }
+
+    fn send_part(&mut self, number: u32) -> Result<(), AllocError> {
+        let Some(proxy) = self.roles.commits.get_mut(number as usize) else {
+            return Ok(());
+        };
+        match proxy.ready_part() {
+            Some(message) => {
+                Tally::add(&mut self.told.tally.acts);
+                self.pools.parts.put(number, message)
+            }
+            None => Ok(()),
+        }
+    }
+
+    fn send_message(&mut self, number: u32) -> Result<(), AllocError> {
+        let Some(proxy) = self.roles.commits.get_mut(number as usize) else {
+            return Ok(());
+        };
+        match proxy.ready_message() {
+            Some(message) => {
+                Tally::add(&mut self.told.tally.acts);
+                self.pools.messages.put(number, message)
+            }
+            None => Ok(()),
+        }
+    }
+
+    // It tells the sequencer once that all logs have its batch.
+    fn send_logged(&mut self, number: u32) -> Result<(), AllocError> {
+        if self.is_reporting(number) {
+            return Ok(());
+        }
+        let Some(proxy) = self.roles.commits.get(number as usize) else {
+            return Ok(());
+        };
+        match proxy.logged_front() {
+            Ok(logged) => {
+                self.count_act();
+                self.set_reporting(number, true);
+                self.pools.logged.put(number, logged)
+            }
+            Err(_why) => {
+                self.fail(number);
+                Ok(())
+            }
+        }
+    }
+
+    fn send_outcome(&mut self, number: u32) -> Result<(), AllocError> {
+        let Some(proxy) = self.roles.commits.get_mut(number as usize) else {
+            return Ok(());
+        };
+        match proxy.ready_answer() {
+            Some((who, told)) => {
+                Tally::add(&mut self.told.tally.acts);
+                self.pools.outcomes.put(who, told)
+            }
+            None => Ok(()),
+        }
+    }
+
+    /// A commit proxy has failed. Where its batch has an entry, logs and resolvers take nothing any more.
+    pub(crate) fn fail(&mut self, number: u32) {
+        self.count_act();
+        let Some(proxy) = self.roles.commits.get_mut(number as usize) else {
+            return;
+        };
+        if proxy.fail() {
+            self.has_hole = true;
+            for log in &mut self.roles.logs {
+                log.end(Refusal::Failed);
+            }
+        }
+    }
+
+    /// A read-version proxy asks the sequencer where somebody waits, and then answers one of those who asked.
+    pub(crate) fn act_begin(&mut self, number: u32) -> Result<(), AllocError> {
+        let Some(proxy) = self.roles.begins.get_mut(number as usize) else {
+            return Ok(());
+        };
+        if let Some((who, told)) = proxy.ready() {
+            Tally::add(&mut self.told.tally.acts);
+            return self.pools.grants.put(who, told);
+        }
+        if proxy.waits() {
+            Tally::add(&mut self.told.tally.acts);
+            proxy.granted(self.roles.sequencer.granted());
+        }
+        Ok(())
+    }
+
+    /// A resolver takes the part whose turn it is, unless a proxy failed.
+    pub(crate) fn act_resolver(&mut self, number: u32) -> Result<(), AllocError> {
+        if self.has_hole {
+            return Ok(());
+        }
+        let Some(resolver) = self.roles.resolvers.get_mut(number as usize) else {
+            return Ok(());
+        };
+        match resolver.ready() {
+            Ok(Some(sent)) => {
+                Tally::add(&mut self.told.tally.acts);
+                self.pools.verdicts.put(sent.proxy, sent.message)
+            }
+            Ok(None) => Ok(()),
+            Err(_why) => {
+                self.has_hole = true;
+                Ok(())
+            }
+        }
+    }
+
+    /// A shard pulls what its log has for it, and forgets what is too old. Where the log has ended and has no more, it
+    /// ends.
+    pub(crate) fn act_shard(&mut self, tag: u32) {
+        let count = self.roles.logs.len();
+        let floor = self.roles.sequencer.committed().saturating_sub(WINDOW);
+        if count == 0 {
+            return;
+        }
+        let log = self.roles.logs.get_mut(tag as usize % count);
+        let (Some(log), Some(shard)) = (log, self.roles.shards.get_mut(tag as usize)) else {
+            return;
+        };
+        if go_on(log, shard, tag, floor) {
+            self.count_act();
+        }
+    }
+}

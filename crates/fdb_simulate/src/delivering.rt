@@ -1,0 +1,327 @@
+// What is on its way comes: each kind of message, and what becomes of it.
+use crate::player::Wish;
+use crate::sim::{ADVANCE, Sim};
+use crate::tally::Tally;
+use fdb_client::Transcript;
+use fdb_keys::{Refusal, Refused};
+use fdb_sections::{ClusterName, CommitReply, GrantMessage, GrantReply, Receipt, SentPart};
+use fdb_txn::{Batch, Spot};
+use std::alloc::AllocError;
+
+// The version of a spot.
+fn version_of(spot: Spot) -> u64 {
+    match spot {
+        Spot::Entry { version, .. } => version,
+        Spot::ReadOnly { version } => version,
+    }
+}
+
+impl<B: ClusterName> Sim<B> {
+    /// Draws a kind of message, and delivers one of them, if there is any. It fails only where memory runs out.
+    pub(crate) fn deliver(&mut self) -> Result<(), AllocError> {
+        let kind = self.draw(10);
+        self.deliver_one(kind)
+    }
+
+    /// Delivers one message of the kind, if there is any.
+    pub(crate) fn deliver_one(&mut self, kind: u32) -> Result<(), AllocError> {
+        match kind {
+            0 => self.give_entry(),
+            1 => {
+                self.take_issued();
+                Ok(())
+            }
+            2 => {
+                self.take_part();
+                Ok(())
+            }
+            3 => {
+                self.take_verdict();
+                Ok(())
+            }
+            4 => self.push_message(),
+            5 => {
+                self.take_acknowledgement();
+                Ok(())
+            }
+            6 => self.report(),
+            7 => {
+                self.take_reported();
+                Ok(())
+            }
+            8 => {
+                self.take_grant();
+                Ok(())
+            }
+            _ => {
+                self.take_outcome();
+                Ok(())
+            }
+        }
+    }
+
+    // The sequencer gives a batch its entry, or refuses that.
+    fn give_entry(&mut self) -> Result<(), AllocError> {
+        let drawn = self.draw(u32::MAX);
+        let Some(sent) = self.pools.batches.take(drawn) else {
+            return Ok(());
+        };
+        self.count_act();
+        let number = sent.number;
+        self.issue(number, sent.message)
+    }
+
+    fn issue(&mut self, number: u32, batch: Batch) -> Result<(), AllocError> {
+        let issued = self
+            .roles
+            .sequencer
+            .issue(self.alloc, &self.cells.book, number, ADVANCE, batch);
+        match issued {
+            Ok(issued) => self.pools.issued.put(number, issued),
+            Err(why) => {
+                self.give_up(number, why);
+                Ok(())
+            }
+        }
+    }
+
+    // The batch got no entry. Where that is for good, all who wait are told so, else the proxy fails.
+    fn give_up(&mut self, number: u32, why: Refusal) {
+        let Some(proxy) = self.roles.commits.get_mut(number as usize) else {
+            return;
+        };
+        proxy.unissued();
+        let done = match why {
+            Refusal::NoMemory | Refusal::Taken => Err(why),
+            Refusal::BookFull => match self.roles.sequencer.granted() {
+                Ok(granted) => proxy.refuse_all(Refusal::BookFull, Some(granted)),
+                Err(why) => proxy.refuse_all(why, None),
+            },
+            why => proxy.refuse_all(why, None),
+        };
+        if done.is_err() {
+            self.fail(number);
+        }
+    }
+
+    // A proxy learns its batch's entry.
+    fn take_issued(&mut self) {
+        let drawn = self.draw(u32::MAX);
+        let Some(sent) = self.pools.issued.take(drawn) else {
+            return;
+        };
+        self.count_act();
+        let number = sent.number;
+        let Some(proxy) = self.roles.commits.get_mut(number as usize) else {
+            return;
+        };
+        if proxy.issued(sent.message).is_err() {
+            self.fail(number);
+        }
+    }
+
+    // A part comes to its resolver, unless a proxy failed.
+    fn take_part(&mut self) {
+        let drawn = self.draw(u32::MAX);
+        if self.has_hole {
+            return;
+        }
+        let Some(sent) = self.pools.parts.take(drawn) else {
+            return;
+        };
+        self.count_act();
+        let proxy = sent.number;
+        let message = sent.message;
+        let number = message.resolver();
+        let Some(resolver) = self.roles.resolvers.get_mut(number as usize) else {
+            return;
+        };
+        if resolver.take(SentPart { proxy, message }).is_err() {
+            self.has_hole = true;
+        }
+    }
+
+    // A resolver's verdicts come to their proxy.
+    fn take_verdict(&mut self) {
+        let drawn = self.draw(u32::MAX);
+        let Some(sent) = self.pools.verdicts.take(drawn) else {
+            return;
+        };
+        self.count_act();
+        let number = sent.number;
+        let Some(proxy) = self.roles.commits.get_mut(number as usize) else {
+            return;
+        };
+        match proxy.verdict(sent.message) {
+            Ok(()) | Err(Refusal::Stale) => {}
+            Err(_why) => self.fail(number),
+        }
+    }
+
+    // A log takes a message, in its turn.
+    fn push_message(&mut self) -> Result<(), AllocError> {
+        let drawn = self.draw(u32::MAX);
+        let Some(sent) = self.pools.messages.take(drawn) else {
+            return Ok(());
+        };
+        let number = sent.number;
+        let message = sent.message;
+        let Some(log) = self.roles.logs.get_mut(message.log() as usize) else {
+            return Ok(());
+        };
+        if log.is_before(message.prev()) {
+            return self.pools.messages.put(number, message);
+        }
+        Tally::add(&mut self.told.tally.acts);
+        let pushed = log.push(&message);
+        drop(message);
+        match pushed {
+            Ok(acknowledgement) => self.pools.acknowledgements.put(number, acknowledgement),
+            Err(_why) => {
+                self.fail(number);
+                Ok(())
+            }
+        }
+    }
+
+    // A log's acknowledgement comes to its proxy.
+    fn take_acknowledgement(&mut self) {
+        let drawn = self.draw(u32::MAX);
+        let Some(sent) = self.pools.acknowledgements.take(drawn) else {
+            return;
+        };
+        self.count_act();
+        let number = sent.number;
+        let Some(proxy) = self.roles.commits.get_mut(number as usize) else {
+            return;
+        };
+        match proxy.logged(&sent.message) {
+            Ok(()) | Err(Refusal::Stale) => {}
+            Err(_why) => self.fail(number),
+        }
+    }
+
+    // The sequencer takes a report.
+    fn report(&mut self) -> Result<(), AllocError> {
+        let drawn = self.draw(u32::MAX);
+        let Some(sent) = self.pools.logged.take(drawn) else {
+            return Ok(());
+        };
+        self.count_act();
+        let number = sent.number;
+        match self.roles.sequencer.report(sent.message) {
+            Ok(reported) => self.pools.reported.put(number, reported),
+            Err(_why) => {
+                self.fail(number);
+                Ok(())
+            }
+        }
+    }
+
+    // A proxy comes to know that its batch is reported.
+    fn take_reported(&mut self) {
+        let drawn = self.draw(u32::MAX);
+        let Some(sent) = self.pools.reported.take(drawn) else {
+            return;
+        };
+        self.count_act();
+        let number = sent.number;
+        self.set_reporting(number, false);
+        let Some(proxy) = self.roles.commits.get_mut(number as usize) else {
+            return;
+        };
+        if proxy.reported(&sent.message).is_err() {
+            self.fail(number);
+        }
+    }
+
+    // A client is told its read version.
+    fn take_grant(&mut self) {
+        let drawn = self.draw(u32::MAX);
+        let Some(sent) = self.pools.grants.take(drawn) else {
+            return;
+        };
+        let number = sent.number;
+        match sent.message {
+            GrantReply::Granted(granted) => self.begin(number, granted),
+            GrantReply::Refused(_why) => {
+                Tally::add(&mut self.told.tally.refused);
+                self.wish(number, Wish::Begin);
+            }
+        }
+    }
+
+    // It begins, and reads first, or only writes.
+    fn begin(&mut self, number: u32, granted: GrantMessage<B>) {
+        let reads = self.draw(4) > 0;
+        let Some(player) = self.players.get_mut(number as usize) else {
+            return drop(granted);
+        };
+        let seen = player.seen;
+        let begun = player.client.begin(self.alloc, &granted);
+        drop(granted);
+        match begun {
+            Ok(version) => {
+                if version < seen {
+                    Tally::add(&mut self.told.tally.early);
+                }
+                self.wish(number, if reads { Wish::Read } else { Wish::Write });
+            }
+            Err(_why) => {
+                Tally::add(&mut self.told.tally.refused);
+                self.wish(number, Wish::Begin);
+            }
+        }
+    }
+
+    // A client is told what became of its transaction.
+    fn take_outcome(&mut self) {
+        let drawn = self.draw(u32::MAX);
+        let Some(sent) = self.pools.outcomes.take(drawn) else {
+            return;
+        };
+        let number = sent.number;
+        self.settle(number, sent.message);
+    }
+
+    /// A client's transaction ends by what it is told.
+    pub(crate) fn settle(&mut self, number: u32, told: CommitReply<B>) {
+        let Some(player) = self.players.get_mut(number as usize) else {
+            return drop(told);
+        };
+        match player.client.settle(self.cells.limit, told) {
+            Ok(receipt) => self.note_receipt(number, receipt),
+            Err(refused) => self.note_refused(number, refused),
+        }
+    }
+
+    /// A client's transaction is acknowledged.
+    pub(crate) fn note_receipt(&mut self, number: u32, receipt: Receipt<B>) {
+        let version = version_of(receipt.spot());
+        self.told.greatest = self.told.greatest.max(version);
+        if self.told.placed.push(receipt.into_placed()).is_ok() {
+            Tally::add(&mut self.told.tally.acknowledged);
+        }
+        self.wish(number, Wish::Begin);
+    }
+
+    /// A client's transaction is refused.
+    pub(crate) fn note_refused(&mut self, number: u32, refused: Refused<Option<Transcript>>) {
+        let Refused { why, back } = refused;
+        let id = back.as_ref().map_or(0, |transcript| {
+            (u128::from(transcript.id.session) << 64) | u128::from(transcript.id.number)
+        });
+        drop(back);
+        match why {
+            Refusal::NotCommitted | Refusal::TransactionTooOld => {
+                Tally::add(&mut self.told.tally.turned_down);
+            }
+            Refusal::CommitUnknownResult => Tally::add(&mut self.told.tally.unknown),
+            _ => {
+                Tally::add(&mut self.told.tally.refused);
+                let _ = self.told.absent.push(id);
+            }
+        }
+        self.wish(number, Wish::Begin);
+    }
+}
