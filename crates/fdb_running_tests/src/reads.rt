@@ -6,7 +6,7 @@ use crate::running::{
     Asked, Done, Host, Named, add_read, add_write, byte_of, commit_code, put, reads_just,
     snapshot_of, two_sessions, write,
 };
-use fdb_keys::Refusal;
+use fdb_keys::{KeyRange, Refusal};
 use fdb_making::{coded, count_config, keys_of};
 use fdb_mutations::Mutation;
 use fdb_runtime::{Blank, ClusterName, Config, Database, NoGate, Session};
@@ -207,7 +207,61 @@ fn write_own<B: ClusterName>(
     Ok(())
 }
 
-// One session commits the pairs, and the other one reads them, and then with its own writes.
+// Commits a hundred pairs at each of seven letters.
+fn commit_hundreds<B: ClusterName, R: Wait>(
+    rt: &R,
+    alloc: Global,
+    session: &mut Session<B>,
+) -> Result<u32, Refusal> {
+    session.begin(rt, alloc)?;
+    for letter in b'a'..b'h' {
+        for number in 0..100u8 {
+            write(session, Mutation::set(alloc, &[letter, number], &[1]))?;
+        }
+    }
+    Ok(commit_code(rt, alloc, session).0)
+}
+
+// How many pairs are asked for, and whether from the end: more than a page has, so that it ends within a shard.
+const MANY: &[(u32, bool)] = &[
+    (0, false),
+    (0, true),
+    (256, false),
+    (257, true),
+    (513, false),
+    (600, true),
+];
+
+// How many pairs the session reads.
+fn count_of<B: ClusterName, R: Wait>(
+    rt: &R,
+    alloc: Global,
+    session: &mut Session<B>,
+    limit: u32,
+    reverse: bool,
+) -> Result<usize, Refusal> {
+    let range = KeyRange::new(alloc, b"a", b"z")?;
+    match session.get_range(rt, alloc, &range, limit, reverse, false) {
+        Ok(pairs) => Ok(pairs.len()),
+        Err(why) => Err(why),
+    }
+}
+
+// The session reads as many pairs as it asks for, of so many, over several pages.
+fn read_pages<B: ClusterName, R: Wait + Abort>(
+    rt: &R,
+    alloc: Global,
+    session: &mut Session<B>,
+    all: usize,
+) {
+    for (limit, reverse) in MANY {
+        let told = coded(count_of(rt, alloc, session, *limit, *reverse));
+        let wanted = if *limit == 0 { all } else { *limit as usize };
+        same(rt, (*limit, told), (*limit, Ok(wanted)));
+    }
+}
+
+// One session commits the pairs, and the other one reads them, and then with its own writes. Then it reads many.
 fn read_ranges<B: ClusterName, R: Wait + Abort>(
     rt: &R,
     alloc: Global,
@@ -225,6 +279,9 @@ fn read_ranges<B: ClusterName, R: Wait + Abort>(
     same(rt, coded(write_own(alloc, reader, case.own)), Ok(()));
     read_each(rt, alloc, reader, case.after);
     get_each(rt, alloc, reader, case.keys);
+    same(rt, coded(commit_hundreds(rt, alloc, writer)), Ok(0));
+    same(rt, coded(reader.begin(rt, alloc)), Ok(200));
+    read_pages(rt, alloc, reader, case.pairs.len().saturating_add(700));
 }
 
 // The same in the database's first two sessions.

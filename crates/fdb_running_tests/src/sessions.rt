@@ -60,6 +60,7 @@ fn commit_and_tell<B: ClusterName, R: Wait>(
     write(first, Mutation::set(alloc, b"a", &[7]))?;
     let receipt = receipt_of(first.commit(rt, alloc))?;
     let learnt = second.learn(&receipt);
+    second.know_front();
     let shown = shown_by(&receipt);
     drop(receipt);
     learnt?;

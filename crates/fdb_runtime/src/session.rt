@@ -1,10 +1,10 @@
-ghost use Rattle.std.specs.Prelude.{◌≡◌, ◌≤◌, true, [], suc, None, Some, Err, IfOk, IfErr, OnOk, OnErr};
+ghost use Rattle.std.specs.Prelude.{◌≡◌, ◌≤◌, true, [], suc, length, None, Some, Err, IfOk, IfErr, OnOk, OnErr};
 ghost use Rattle.fdb_keys.specs.declared.refusal.Refusal.TheVariants.{NoTransaction};
 ghost use Rattle.fdb_book.specs.Fronts.{IsPrefix};
+ghost use Rattle.fdb_txn.specs.book.History.{IsBook};
 ghost use Rattle.fdb_keys.specs.Answers.{Answers};
 ghost use Rattle.fdb_txn.specs.book.Book.{last_version};
 ghost use Rattle.fdb_mutations.specs.Mutations.{mutation_fault};
-ghost use Rattle.fdb_client.specs.Programs.{commit_request_of};
 ghost use Rattle.fdb_client.specs.TxnState.{with_op};
 ghost use Rattle.fdb_client.specs.declared.program.Op.TheVariants as operation;
 ghost use Rattle.fdb_client.specs.declared.program.Reply.TheVariants as answer;
@@ -15,8 +15,7 @@ ghost use Rattle.fdb_sections.specs.Refusals.{is_of_begin, is_of_read};
 ghost use Rattle.fdb_sections.specs.Sessions.{learning, with_current};
 
 use crate::shared::Shared;
-use crate::shared::shard::{hold_met, lent_of};
-use crate::shared::slot::Slot;
+use crate::shared::snapshot::SharedShards;
 use crate::threads::reply::Slots;
 use crate::threads::request::{BeginRequest, CommitRequest};
 use bytes::Bytes;
@@ -24,10 +23,8 @@ use fdb_client::Transcript;
 use fdb_keys::{Items, Key, KeyRange, Refusal, Refused};
 use fdb_mutations::Mutation;
 use fdb_sections::{
-    ClusterName, CommitReply, Ended, GrantMessage, GrantReply, Receipt, SessionState, Submitted,
-    why_of,
+    Asked, Client, ClusterName, CommitReply, GrantMessage, GrantReply, Receipt, why_of,
 };
-use fdb_txn::Sealed;
 use std::alloc::Global;
 use std::marker::Model;
 use std::sync::{Arc, Wait};
@@ -62,16 +59,20 @@ fn read_refusal(why: Refusal) -> Refusal
 pub struct Session<B: ClusterName> {
     number: u32,
     shared: Arc<Shared<B>>,
-    state: SessionState<B>,
+    client: Client<B>,
     slots: Slots<B>,
 }
 
 impl<B: ClusterName> Model for Session<B> {
+    ghost use Rattle.std.specs.Prelude.{◌≡◌, None};
     ghost use Rattle.fdb_sections.specs.Sessions.{Session as Seen};
 
     ghost Value = { Seen };
 
-    ghost view = { λ it. it.state };
+    ghost view = { λ it. it.client.session };
+
+    // No call ends before the session is told what became of what it submitted.
+    ghost invariant = { λ it. it.client.submitted ≡ None };
 }
 
 impl<B: ClusterName> Session<B> {
@@ -81,13 +82,21 @@ impl<B: ClusterName> Session<B> {
             ≡ record { number = number; next_number = 0; front = []; mark = 0; current = None }) }
     {
         let slots = Slots::new(alloc)?;
-        let state = SessionState::new(alloc, shared.book(), number)?;
+        let client = Client::new(alloc, shared.book(), number)?;
         Ok(Session {
             number,
             shared,
-            state,
+            client,
             slots,
         })
+    }
+
+    /// Says that what the session has seen is a book, in which no transaction stands twice, and does nothing else. It
+    /// takes no memory, and O(1) time.
+    pub fn know_front(&self)
+        ensures { IsBook (suc (length B.config.resolver_splits)) self.now.front }
+    {
+        self.client.know_front();
     }
 
     /// Opens a transaction, and answers the version that it reads at: a committed one that isn't below the mark. One
@@ -112,7 +121,7 @@ impl<B: ClusterName> Session<B> {
         ensures refused { OnErr result (self.new ≡ self.old) }
     {
         let granted = self.ask_version(rt)?;
-        self.state.begin(alloc, &granted)
+        self.client.begin(alloc, &granted)
     }
 
     // Asks its read-version proxy.
@@ -134,7 +143,7 @@ impl<B: ClusterName> Session<B> {
         let inbox = &inboxes[self.number as usize % inboxes.len()];
         let request = BeginRequest {
             session: self.number,
-            mark: self.state.mark(),
+            mark: self.client.mark(),
             reply: self.slots.grants()?,
         };
         if let Err(refused) = inbox.put(rt, request) {
@@ -156,7 +165,7 @@ impl<B: ClusterName> Session<B> {
             ≡ with_current self.old (Some (with_op transcript (operation.Write mutation.now) answer.Done)))) }
         ensures refused { OnErr result (self.new ≡ self.old) }
     {
-        self.state.write(mutation)
+        self.client.write(mutation)
     }
 
     /// The open transaction adds the range to its read set, whole. It waits for nobody. Refused as `NoTransaction`
@@ -167,7 +176,7 @@ impl<B: ClusterName> Session<B> {
             ≡ with_current self.old (Some (with_op transcript (operation.AddRead range.now) answer.Done)))) }
         ensures refused { OnErr result (self.new ≡ self.old) }
     {
-        self.state.add_read(range)
+        self.client.add_read(range)
     }
 
     /// The open transaction adds the range to its write set, whole. It waits for nobody. Refused as `NoTransaction`
@@ -178,7 +187,7 @@ impl<B: ClusterName> Session<B> {
             ≡ with_current self.old (Some (with_op transcript (operation.AddWrite range.now) answer.Done)))) }
         ensures refused { OnErr result (self.new ≡ self.old) }
     {
-        self.state.add_write(range)
+        self.client.add_write(range)
     }
 
     /// Learns of a receipt of the database: what the session has seen becomes the longer of both fronts, and the mark
@@ -189,7 +198,7 @@ impl<B: ClusterName> Session<B> {
         ensures begins { OnOk result (IsPrefix self.old.front self.new.front) }
         ensures refused { OnErr result (self.new ≡ self.old) }
     {
-        self.state.learn(receipt)
+        self.client.learn(receipt)
     }
 
     /// The value of the key after the open transaction's own writes: on the serial map of what the session has seen of
@@ -214,7 +223,7 @@ impl<B: ClusterName> Session<B> {
         ensures refusals { IfErr result (λ why. is_of_read why ≡ true) }
         ensures refused { OnErr result (self.new ≡ self.old) }
     {
-        let Some(version) = self.state.read_version() else {
+        let Some(version) = self.client.read_version() else {
             return Err(Refusal::NoTransaction);
         };
         match self.get_open(rt, alloc, version, key, is_snapshot) {
@@ -236,27 +245,28 @@ impl<B: ClusterName> Session<B> {
             (operation.Get key.now is_snapshot) (answer.Value value) self.new) }
         ensures refused { OnErr result (self.new ≡ self.old) }
     {
-        if self.state.decides(key) {
-            return self.state.get_decided(alloc, key, is_snapshot);
+        if self.client.decides(key) {
+            return self.client.get_decided(alloc, key, is_snapshot);
         }
         let Some(shard) = self.shared.shard(self.shared.tag_of(key)) else {
             return Err(Refusal::Failed);
         };
         let held = shard.at_version(rt, version)?;
-        self.state.get_at(&held.at, key, is_snapshot)
+        self.client.get_at(&held.at, key, is_snapshot)
     }
 
     /// The pairs of the range after the open transaction's own writes, the first `limit` of them in key order, from the
     /// last one backwards where `reverse`, and all where `limit` is 0: on the serial map of what the session has seen
-    /// of the book, at the transaction's read version. It is noted in the transcript. It waits for each of the shards
-    /// that the range meets, holding none meanwhile. Then it takes their locks in the order of their numbers, and holds
-    /// them while it reads.
+    /// of the book, at the transaction's read version. It is noted in the transcript. It reads page by page, of no more
+    /// than 256 pairs, and waits for each of the shards that a page looks at. It holds the lock of one shard at a time,
+    /// while that gives its part of one page, and none between two pages.
     ///
     /// Refused as `get` is; then nothing changes. Each shard is asked for no more than the limit still needs, in the
-    /// order in which the pairs are given, and asked again as often as the own writes hide what it gave. It takes O(s)
-    /// time for each asking of s shards, O(log n) comparisons of the n keys of each shard that is asked, and O(log v)
-    /// for the v versions of each pair that it gives, of one more, and of each key between them at which nothing
-    /// stands.
+    /// order in which the pairs are given, and asked again as often as it has more than a page, or the own writes hide
+    /// what it gave. Each asking takes O(log s) comparisons for s shards, O(log n) for the n keys of the shard, and
+    /// O(log v) for the v versions of each pair that it gives, of one more, and of each key between them at which
+    /// nothing stands. Where it is refused, it asks each shard that the range meets once more whether it serves the
+    /// version.
     pub fn get_range<R: Wait>(
         &mut self,
         rt: &R,
@@ -273,10 +283,10 @@ impl<B: ClusterName> Session<B> {
         ensures refusals { IfErr result (λ why. is_of_read why ≡ true) }
         ensures refused { OnErr result (self.new ≡ self.old) }
     {
-        let Some(version) = self.state.read_version() else {
+        if self.client.read_version().is_none() {
             return Err(Refusal::NoTransaction);
-        };
-        match self.range_open(rt, alloc, version, range, limit, reverse, is_snapshot) {
+        }
+        match self.range_open(rt, alloc, range, limit, reverse, is_snapshot) {
             Ok(pairs) => Ok(pairs),
             Err(why) => Err(read_refusal(why)),
         }
@@ -287,7 +297,6 @@ impl<B: ClusterName> Session<B> {
         &mut self,
         rt: &R,
         alloc: Global,
-        version: u64,
         range: &KeyRange,
         limit: u32,
         reverse: bool,
@@ -297,9 +306,17 @@ impl<B: ClusterName> Session<B> {
             (operation.Range range.now limit reverse is_snapshot) (answer.Pairs pairs) self.new) }
         ensures refused { OnErr result (self.new ≡ self.old) }
     {
-        let held = hold_met(rt, alloc, self.shared.shards_from(range), version, range)?;
-        let shards = lent_of(alloc, held.as_slice())?;
-        self.state.get_range_at(alloc, shards.as_slice(), range, limit, reverse, is_snapshot)
+        let (version, front) = self.client.share_open()?;
+        let shards = SharedShards::new(alloc, rt, &self.shared, version, &front);
+        match self
+            .client
+            .get_range_on(&shards, range, limit, reverse, is_snapshot)
+        {
+            Ok(pairs) => Ok(pairs),
+            // The shards refuse all as if memory had run out.
+            Err(Refusal::NoMemory) => Err(shards.why_unread(range)),
+            Err(why) => Err(why),
+        }
     }
 
     /// Commits the open transaction, and gives its receipt, after which none is open. What wrote nothing is committed
@@ -322,58 +339,35 @@ impl<B: ClusterName> Session<B> {
             Ok(reply) => reply,
             Err(why) => return Err(Refused { why, back: None }),
         };
-        match self.state.finish_or_receipt() {
-            Ok(Ended::Acknowledged(receipt)) => Ok(self.state.acknowledge(receipt)),
-            Ok(Ended::ToCommit(sealed, transcript)) => {
-                match self.submit(rt, sealed, transcript, reply) {
-                    Ok((submitted, told)) => self.state.end(self.shared.limit(), submitted, told),
-                    Err(transcript) => Err(Refused {
-                        why: Refusal::CommitUnknownResult,
-                        back: Some(transcript),
-                    }),
-                }
+        match self.client.commit() {
+            Ok(Asked::Acknowledged(receipt)) => Ok(receipt),
+            Ok(Asked::ToCommit(sealed)) => {
+                let request = CommitRequest { sealed, reply };
+                let told = ask_commit(rt, &self.shared, &self.slots, self.number, request);
+                self.client.settle(self.shared.limit(), told)
             }
-            Err(why) => Err(Refused { why, back: None }),
+            Err(refused) => Err(refused),
         }
     }
+}
 
-    // Submits the request, and gives what was submitted with what its commit proxy tells. Where memory runs out for a
-    // copy of the request, nothing is submitted, and the transcript is handed back.
-    fn submit<R: Wait>(
-        &self,
-        rt: &R,
-        sealed: Sealed,
-        transcript: Transcript,
-        reply: Arc<Slot<CommitReply<B>>>,
-    ) -> Result<(Submitted, CommitReply<B>), Transcript>
-        requires { sealed ≡ commit_request_of transcript }
-        ensures its { IfOk result (λ given. given.0.transcript ≡ transcript) }
-        ensures back { IfErr result (λ back. back ≡ transcript) }
-    {
-        match Submitted::new(&sealed, transcript) {
-            Ok(submitted) => {
-                let told = self.ask_commit(rt, CommitRequest { sealed, reply });
-                Ok((submitted, told))
-            }
-            Err(transcript) => {
-                drop(sealed);
-                Err(transcript)
-            }
-        }
+// What the session's commit proxy tells of the request.
+fn ask_commit<B: ClusterName, R: Wait>(
+    rt: &R,
+    shared: &Shared<B>,
+    slots: &Slots<B>,
+    number: u32,
+    request: CommitRequest<B>,
+) -> CommitReply<B> {
+    let inboxes = shared.commits();
+    if inboxes.is_empty() {
+        return CommitReply::Refused(Refusal::Failed);
     }
-
-    // What its commit proxy tells of the request.
-    fn ask_commit<R: Wait>(&self, rt: &R, request: CommitRequest<B>) -> CommitReply<B> {
-        let inboxes = self.shared.commits();
-        if inboxes.is_empty() {
-            return CommitReply::Refused(Refusal::Failed);
-        }
-        let inbox = &inboxes[self.number as usize % inboxes.len()];
-        if let Err(refused) = inbox.put(rt, request) {
-            return CommitReply::Refused(why_of(refused));
-        }
-        self.slots
-            .next_outcome(rt)
-            .unwrap_or(CommitReply::Refused(Refusal::CommitUnknownResult))
+    let inbox = &inboxes[number as usize % inboxes.len()];
+    if let Err(refused) = inbox.put(rt, request) {
+        return CommitReply::Refused(why_of(refused));
     }
+    slots
+        .next_outcome(rt)
+        .unwrap_or(CommitReply::Refused(Refusal::CommitUnknownResult))
 }

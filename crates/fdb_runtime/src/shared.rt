@@ -6,7 +6,7 @@ ghost use Rattle.fdb_runtime.specs.Databases.{AnswersMove, is_bad_move};
 
 use crate::threads::request::{BeginRequest, CommitRequest};
 use fdb_book::Book;
-use fdb_keys::{Key, KeyRange, Refusal};
+use fdb_keys::{Key, KeyRange, Refusal, is_before};
 use fdb_proxy::Config;
 use fdb_sections::{
     ClusterName, GrantMessage, Issued, LogAt, LoggedFront, Reported, SequencerAt, ShardAt, both,
@@ -23,10 +23,11 @@ pub(crate) mod inbox;
 pub(crate) mod log;
 pub(crate) mod shard;
 pub(crate) mod slot;
+pub(crate) mod snapshot;
 pub(crate) mod waiting;
 
 /// What all threads of a database and its sessions share. Each lock in it is taken with no other one held, but for
-/// those of shards by who reads several: they are taken in the order of the shards.
+/// those of shards by who closes the database: they are taken in the order of the shards.
 #[derive(Drop)]
 pub(crate) struct Shared<B: ClusterName> {
     pub(crate) alloc: Global,
@@ -184,6 +185,13 @@ impl<B: ClusterName> Shared<B> {
         self.shards.get(first..).unwrap_or(&[])
     }
 
+    /// The shards up to the last one that the range meets, in the order of their ranges. Refused only as `NoMemory`. It
+    /// takes two look-ups in the map of the shards, and memory for the copies of four bounds.
+    pub(crate) fn shards_until(&self, range: &KeyRange) -> Result<&[SharedShard<B>], Refusal> {
+        let count = count_until(self.alloc, &self.shard_map, range.end())?;
+        Ok(self.shards.get(..count).unwrap_or(&[]))
+    }
+
     /// The tag of the shard that has the key.
     pub(crate) fn tag_of(&self, key: &Key) -> u32 {
         self.shard_map.shard_of(key)
@@ -198,6 +206,25 @@ impl<B: ClusterName> Shared<B> {
     pub(crate) fn begins(&self) -> &[SharedInbox<BeginRequest<B>>] {
         self.begins.as_slice()
     }
+}
+
+// How many of the shards begin before the bound.
+fn count_until(alloc: Global, map: &ShardMap, bound: &[u8]) -> Result<usize, Refusal> {
+    let there = owner_of_bound(alloc, map, bound)?;
+    // The shard that has the bound has what comes right before it, too, unless it begins there.
+    Ok(there as usize + is_begun_before(map, there, bound)? as usize)
+}
+
+// The shard that has the bound.
+fn owner_of_bound(alloc: Global, map: &ShardMap, bound: &[u8]) -> Result<u32, Refusal> {
+    let range = KeyRange::new(alloc, bound, bound)?;
+    Ok(map.first_met(&range))
+}
+
+// Whether the shard with the tag begins before the bound.
+fn is_begun_before(map: &ShardMap, tag: u32, bound: &[u8]) -> Result<bool, Refusal> {
+    let range = map.range(tag)?;
+    Ok(is_before(range.begin(), bound))
 }
 
 /// How many resolvers and how many shards there are. Refused as `BadConfig` where the configuration isn't legal. It

@@ -15,11 +15,11 @@ use Rattle.fdb_sections.specs.declared.client.Asked.TheVariants as asked
 use Rattle.fdb_sections.specs.declared.session_state.settling.Ended.{Ended}
 use Rattle.fdb_sections.specs.declared.session_state.settling.Ended.TheVariants.{Acknowledged, ToCommit}
 use Rattle.fdb_sections.specs.Clients.{Client, Asks}
-use Rattle.fdb_sections.specs.Commits.{CommitAnswers, open_fault}
+use Rattle.fdb_sections.specs.Commits.{CommitAnswers, CommitEnds, open_fault}
 use Rattle.fdb_sections.specs.Endings.{Ends}
-use Rattle.fdb_sections.specs.Receipts.{read_only_receipt}
+use Rattle.fdb_sections.specs.Receipts.{ReceiptAtFront, read_only_receipt}
 use Rattle.fdb_sections.specs.Sessions.{Session, with_current}
-use Rattle.fdb_sections.proofs.CommitLemmas.{to-commit, request-is, left-unknown, submitted}
+use Rattle.fdb_sections.proofs.CommitLemmas.{ended-open, to-commit, request-is, left-unknown, submitted}
 
 -- what is to be committed wrote something
 wrote-is : {B : Type 0} (front : List Entry) (current : Option Transcript) (request : Transaction)
@@ -85,3 +85,26 @@ asks-submitted {B} config old new middle request transcript ended result its of 
               (subst (λ (it : Refused (Option Transcript)). CommitAnswers config old.session (Err it) middle) same
               answers),
         )
+
+-- A session that is told what became of what it submitted is answered that of what was open, and has submitted nothing
+-- then.
+pub settled : (B : Type 0) (config : Config) (old middle new : Client) (request : Transaction)
+    (result : Result ReceiptAtFront (Refused (Option Transcript)))
+    → Asks {B = B} config old (Ok (asked.ToCommit request)) middle
+    → IfSome middle.submitted (λ transcript. (new.submitted ≡ None)
+    × CommitEnds config middle.session transcript result new.session)
+    → (new.submitted ≡ None) × CommitAnswers config old.session result new.session
+settled B config old middle new request result asks ends =
+    by_current old.session.current refl asks.0 asks.1
+  where
+    by_current : (current : Option Transcript) → old.session.current ≡ current → open_fault current ≡ None
+        → IfSome current (λ transcript. (is_read_only transcript ≡ false) × (request ≡ commit_request_of transcript)
+        × (middle ≡ record { session = with_current old.session None; submitted = Some transcript }))
+        → (new.submitted ≡ None) × CommitAnswers config old.session result new.session
+    by_current None is may given = absurd cc
+    by_current (Some transcript) is may given =
+        let its : (new.submitted ≡ None)
+        × CommitEnds config (with_current old.session None) transcript result new.session =
+        subst (λ (it : Client). IfSome it.submitted (λ own. (new.submitted ≡ None)
+        × CommitEnds config it.session own result new.session)) given.2 ends in
+        (its.0, ended-open config old.session new.session transcript result is (ap open_fault is ∙ may) its.1)

@@ -164,6 +164,29 @@ left-unknown config it transcript back same none = record {
   left = ap (λ (current : Option Transcript). record it { front = it.front; current = current }) none;
 }
 
+-- What becomes of what was open is what the session is answered.
+pub ended-open : (config : Config) (old new : Session) (transcript : Transcript)
+    (result : Result ReceiptAtFront (Refused (Option Transcript))) → old.current ≡ Some transcript
+    → open_fault old.current ≡ None → CommitEnds config (with_current old None) transcript result new
+    → CommitAnswers config old result new
+ended-open config old new transcript result own may = by_result result
+  where
+    some : (P : Transcript → Type 0) → P transcript → IfSome old.current P
+    some P holds = subst (λ (current : Option Transcript). IfSome current P) (sym own) holds
+
+    by_result : (r : Result ReceiptAtFront (Refused (Option Transcript)))
+        → CommitEnds config (with_current old None) transcript r new → CommitAnswers config old r new
+    by_result (Ok receipt) is = (
+      may,
+      some (λ (it : Transcript). HasReceipt old it receipt new)
+          (record { its = is.its; read_only = is.read_only; begins = is.begins; left = is.left }),
+    )
+    by_result (Err refused) is = inr (
+      may,
+      some (λ (it : Transcript). HasTranscript config old it refused new)
+          (record { back = is.back; listed = is.listed; tells = is.tells; begins = is.begins; left = is.left }),
+    )
+
 -- It ends as it would have ended open.
 pub submitted : {B : Type 0} (config : Config) (old middle new : Session) (request : Transaction)
     (transcript : Transcript) (result : Result ReceiptAtFront (Refused (Option Transcript))) (ended : Ended B)
@@ -171,23 +194,8 @@ pub submitted : {B : Type 0} (config : Config) (old middle new : Session) (reque
     → middle ≡ with_current old None → CommitEnds config middle transcript result new
     → CommitAnswers config old result new
 submitted {B} config old middle new request transcript result ended its of middle-is ends =
-    by_result result (subst (λ (it : Session). CommitEnds config it transcript result new) middle-is ends)
+    ended-open config old new transcript result own.0 own.1
+    (subst (λ (it : Session). CommitEnds config it transcript result new) middle-is ends)
   where
     own : (old.current ≡ Some transcript) × (open_fault old.current ≡ None)
     own = to-commit old.front old.current request transcript ended its of
-
-    some : (P : Transcript → Type 0) → P transcript → IfSome old.current P
-    some P holds = subst (λ (current : Option Transcript). IfSome current P) (sym own.0) holds
-
-    by_result : (r : Result ReceiptAtFront (Refused (Option Transcript)))
-        → CommitEnds config (with_current old None) transcript r new → CommitAnswers config old r new
-    by_result (Ok receipt) is = (
-      own.1,
-      some (λ (it : Transcript). HasReceipt old it receipt new)
-          (record { its = is.its; read_only = is.read_only; begins = is.begins; left = is.left }),
-    )
-    by_result (Err refused) is = inr (
-      own.1,
-      some (λ (it : Transcript). HasTranscript config old it refused new)
-          (record { back = is.back; listed = is.listed; tells = is.tells; begins = is.begins; left = is.left }),
-    )

@@ -1,2 +1,2 @@
 -- The lemmas that proofs of other crates cite, and no others.
-pub use Rattle.fdb_sections.proofs.CommitLemmas.{acknowledged, left-unknown, submitted}
+pub use Rattle.fdb_sections.proofs.ClientLemmas.{settled}

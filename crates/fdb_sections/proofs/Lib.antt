@@ -3,6 +3,7 @@ mod ClientLemmas
 mod CommitLemmas
 mod CommitProxyLemmas
 mod IssueLemmas
+mod GatheringLemmas
 mod LentShardLemmas
 mod LogLemmas
 mod ReadingLemmas

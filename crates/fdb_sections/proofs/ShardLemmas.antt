@@ -1,11 +1,12 @@
 -- A shard that applies what its log gave goes on to the front of as many entries more.
 use Rattle.std.proofs.Common.{◌≡◌, ◌∙◌, refl, sym, ap, ap₂, subst, ℕ, suc, ◌+◌, ◌<◌, ◌≤◌, arith, Bool, true, false}
-use Rattle.std.proofs.Common.{List, [], length, take, Some, None, Ok}
-use Rattle.std.specs.Prelude.{◌==◌, not, nat_lt, if◌then◌else◌}
+use Rattle.std.proofs.Common.{List, [], length, take, inl, Option, Some, None, Result, Ok, Err}
+use Rattle.std.specs.Prelude.{◌==◌, ◌⊎◌, ⊤, not, nat_lt, IsNone, IsSome, OnErr, if◌then◌else◌}
 use Rattle.std.proofs.lemmas.Bool.{eqb-true, ltb-false, true≢false}
 use Rattle.std.proofs.lemmas.List.{length-take}
 use Rattle.fdb_keys.specs.Answers.{Answers, AnswersExactly}
 use Rattle.fdb_keys.specs.Ranges.{Range}
+use Rattle.fdb_keys.specs.declared.refusal.Refusal.{Refusal}
 use Rattle.fdb_keys.specs.declared.refusal.Refusal.TheVariants.{Failed, NotYet, Stale, Unknown}
 use Rattle.fdb_txn.specs.declared.entry.Entry.{Entry}
 use Rattle.fdb_txn.specs.book.Book.{last_version}
@@ -170,3 +171,13 @@ answers-on at own given sent new is also none gone =
     gives (peek_fault own sent) tt (λ _. HasGoneOn own sent new) none
     (subst (λ (it : ShardAtFront). HasGoneOn it sent new) is
     (subst (λ (it : PeekAtFront). HasGoneOn at it new) also gone))
+
+-- A shard that refuses to apply is as it was, but for what memory ran out in.
+pub kept-or-failed : (fault : Option Refusal) (result : Result ⊤ Refusal) (old new : ShardAtFront)
+    → (IsSome fault → new ≡ old)
+    → (IsNone fault → OnErr result ((new.shard ≡ old.shard) ⊎ HasFailed old.shard new.shard))
+    → OnErr result ((new.shard ≡ old.shard) ⊎ HasFailed old.shard new.shard)
+kept-or-failed None result old new refused failed = failed refl
+kept-or-failed (Some fault) (Ok done) old new refused failed = tt
+kept-or-failed (Some fault) (Err why) old new refused failed =
+    inl (ap (λ (it : ShardAtFront). it.shard) (refused refl))

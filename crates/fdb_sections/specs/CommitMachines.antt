@@ -67,6 +67,7 @@ next_of it = if not (length it.replies == 0) then next.Answer else in_phase it.p
     in_phase phase.Resolving = if length it.parts == 0 then next.Verdicts (it.resolvers - it.left) else next.Part
     in_phase phase.Logging = if length it.messages == 0 then next.Acknowledgement (it.logs - it.left) else next.Message
     in_phase phase.Logged = next.Report
+    in_phase phase.Reporting = next.Reported
     in_phase (phase.Refusing why) = next.Answer
     in_phase phase.Failed = if length it.waiting == 0 then next.End else next.Answer
 

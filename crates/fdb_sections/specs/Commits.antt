@@ -1,6 +1,6 @@
 -- How a commit ends for the session that asked for it.
-use Rattle.std.specs.Prelude.{◌≡◌, ◌⊎◌, max, Bool, true, false, List, length, Option, Some, None, IfSome, Result}
-use Rattle.std.specs.Prelude.{Ok, Err}
+use Rattle.std.specs.Prelude.{◌≡◌, ◌==◌, ◌&&◌, ◌⊎◌, max, Bool, true, false, not, List, length, Option, Some, None}
+use Rattle.std.specs.Prelude.{IfSome, Result, Ok, Err, if◌then◌else◌}
 use Rattle.fdb_keys.specs.declared.refusal.Refusal.{Refusal}
 use Rattle.fdb_keys.specs.declared.refusal.Refusal.TheVariants as refusal
 use Rattle.fdb_keys.specs.declared.refusal.Refused.{Refused}
@@ -13,8 +13,10 @@ use Rattle.fdb_client.specs.Programs.{is_read_only}
 use Rattle.fdb_client.specs.declared.program.Transcript.{Transcript}
 use Rattle.fdb_roles.specs.Spots.{spot_version}
 use Rattle.fdb_roles.specs.Sessions.{submit_fault}
-use Rattle.fdb_sections.specs.Receipts.{ReceiptAtFront, IsTurnedDown}
-use Rattle.fdb_sections.specs.Sessions.{Session}
+use Rattle.fdb_sections.specs.declared.messages.reply.CommitReply.{CommitReply}
+use Rattle.fdb_sections.specs.declared.messages.reply.CommitReply.TheVariants as reply
+use Rattle.fdb_sections.specs.Receipts.{ReceiptAtFront, OutcomeAtFront, IsTurnedDown}
+use Rattle.fdb_sections.specs.Sessions.{Session, TakesOutcome, seeing}
 
 -- whether a spot is that of a transaction that wrote nothing
 abbrev pub is_read_only_spot : Spot → Bool
@@ -78,6 +80,35 @@ abbrev pub CommitEnds : Config → Session → Transcript → Result ReceiptAtFr
     → Type 0
 CommitEnds config old transcript (Ok receipt) new = HasReceipt old transcript receipt new
 CommitEnds config old transcript (Err refused) new = HasTranscript config old transcript refused new
+
+-- A session that is refused without a front has that reason where it tells nothing of the book and ends a transaction;
+-- else it doesn't know what became of it.
+abbrev pub plain_reason : Refusal → Refusal
+plain_reason why = if is_handed_back why && not (is_shown why) then why else refusal.CommitUnknownResult
+
+-- it is answered by the outcome that it is told, or doesn't know it
+abbrev pub IsByOutcome : Session → OutcomeAtFront → Transcript → Result ReceiptAtFront (Refused (Option Transcript))
+    → Session → Type 0
+IsByOutcome it told transcript (Ok receipt) new = TakesOutcome it told transcript (Ok (receipt.front, receipt.spot)) new
+IsByOutcome it told transcript (Err refused) new = TakesOutcome it told transcript (Err refused.why) new
+
+-- It sees the front that is to show that the book is full, which it is where that has as many entries as a book may
+-- have. Where memory runs out for that, it doesn't know.
+abbrev pub IsByFull : Config → Session → List Entry → Refusal → Session → Type 0
+IsByFull config it front why new =
+    ((new ≡ seeing it front)
+    × (why ≡ (if length new.front == config.book then refusal.BookFull else refusal.CommitUnknownResult)))
+    ⊎ ((new ≡ it) × (why ≡ refusal.CommitUnknownResult))
+
+-- A session is answered what it is told: what became of its transaction, that the book is full, or that it is refused.
+abbrev pub IsToldSo : {B : Type 0} → Config → Session → Transcript → CommitReply B
+    → Result ReceiptAtFront (Refused (Option Transcript)) → Session → Type 0
+IsToldSo config it transcript (reply.Outcome told) result new = IsByOutcome it told transcript result new
+IsToldSo config it transcript (reply.Full front) (Ok receipt) new = ⊥
+IsToldSo config it transcript (reply.Full front) (Err refused) new = IsByFull config it front refused.why new
+IsToldSo config it transcript (reply.Refused why) (Ok receipt) new = ⊥
+IsToldSo config it transcript (reply.Refused why) (Err refused) new =
+    (refused.why ≡ plain_reason why) × (new ≡ it)
 
 -- why a session's transaction can't be submitted
 abbrev pub open_fault : Option Transcript → Option Refusal

@@ -3,9 +3,12 @@ pub mod CommitMachines
 pub mod CommitProxiesAtFronts
 pub mod Commits
 pub mod Endings
+pub mod Examples
+pub mod Gathering
 pub mod Issuing
 pub mod LentShards
 pub mod Messages
+pub mod Pulls
 pub mod ReadVersionMachines
 pub mod Reading
 pub mod Receipts

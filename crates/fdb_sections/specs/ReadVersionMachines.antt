@@ -1,6 +1,5 @@
 -- Read-version proxies that run: who waits, and what they are told.
 use Rattle.std.specs.Prelude.{◌≡◌, ◌⊎◌, ℕ, List, length, Option, Some, None}
-use Rattle.fdb_keys.specs.declared.refusal.Refusal.{Refusal}
 use Rattle.fdb_keys.specs.declared.refusal.Refusal.TheVariants.{NoMemory, Failed}
 use Rattle.fdb_sections.specs.declared.messages.reply.GrantReply.{GrantReply}
 use Rattle.fdb_sections.specs.declared.messages.reply.GrantReply.TheVariants as reply

@@ -1,10 +1,14 @@
 //! A session whose commits are submitted, and of which it is told later.
-ghost use Rattle.std.specs.Prelude.{◌≡◌, max, [], None, Some, Err, IfOk, IfErr, IfSome, OnErr};
-ghost use Rattle.std.specs.Prelude.{if◌then◌else◌};
+ghost use Rattle.std.specs.Prelude.{◌≡◌, ◌≤◌, ◌⊎◌, max, [], None, Some, Err, IfOk, IfErr, IfSome, IfNone, OnOk, OnErr};
+ghost use Rattle.std.specs.Prelude.{if◌then◌else◌, suc, length};
 ghost use Rattle.std.specs.Option.{option_map};
 ghost use Rattle.fdb_keys.specs.Answers.{Answers};
 ghost use Rattle.fdb_keys.specs.declared.refusal.Refusal.TheVariants.{NoTransaction, WrongState, CommitUnknownResult};
+ghost use Rattle.fdb_keys.specs.declared.refusal.Refusal.TheVariants.{Exhausted, NoMemory, KeyOutsideLegalRange};
 ghost use Rattle.fdb_mutations.specs.Mutations.{mutation_fault};
+ghost use Rattle.fdb_txn.specs.book.Book.{last_version};
+ghost use Rattle.fdb_txn.specs.book.History.{IsBook};
+ghost use Rattle.fdb_book.specs.Fronts.{IsPrefix};
 ghost use Rattle.fdb_storage.specs.Shards.{key_fault};
 ghost use Rattle.fdb_client.specs.Programs.{program, decided, commit_request_of};
 ghost use Rattle.fdb_sections.specs.declared.client.Asked.TheVariants as asks;
@@ -14,10 +18,13 @@ ghost use Rattle.fdb_client.specs.declared.program.Reply.TheVariants as answer;
 ghost use Rattle.fdb_client.specs.declared.program.Transcript.{Transcript as ATranscript};
 ghost use Rattle.fdb_roles.specs.Sessions.{OfOpen};
 ghost use Rattle.fdb_sections.specs.Clients.{unless_submitted, Asks, MayEnd};
-ghost use Rattle.fdb_sections.specs.Commits.{CommitEnds};
-ghost use Rattle.fdb_sections.specs.Reading.{HasRead, RefusedBy};
-ghost use Rattle.fdb_sections.specs.Sessions.{begin_fault, beginning, with_current};
+ghost use Rattle.fdb_sections.specs.Commits.{CommitEnds, IsToldSo};
+ghost use Rattle.fdb_sections.specs.LentShards.{lent_shards, lending_fault};
+ghost use Rattle.fdb_sections.specs.Reading.{HasRead, own_writes_decide, RefusedBy};
+ghost use Rattle.fdb_sections.specs.Sessions.{begin_fault, beginning, learning, with_current};
+ghost use Rattle.fdb_sections.specs.ShardViews.{run_of};
 
+use crate::known_front::KnownFront;
 use crate::messages::reply::CommitReply;
 use crate::name::ClusterName;
 use crate::receipt::Receipt;
@@ -28,8 +35,8 @@ use crate::session_state::settling::Ended;
 use crate::session_state::submitted::Submitted;
 use bytes::Bytes;
 use fdb_book::Book;
-use fdb_client::Transcript;
-use fdb_keys::{Key, Refusal, Refused};
+use fdb_client::{Snapshot, Transcript};
+use fdb_keys::{Items, Key, KeyRange, Refusal, Refused};
 use fdb_mutations::Mutation;
 use fdb_txn::Sealed;
 use std::alloc::Global;
@@ -84,6 +91,14 @@ impl<B: ClusterName> Client<B> {
         })
     }
 
+    /// Says that what the session has seen is a book, in which no transaction stands twice, and does nothing else. It
+    /// takes no memory, and O(1) time.
+    pub fn know_front(&self)
+        ensures { IsBook (suc (length B.config.resolver_splits)) self.now.session.front }
+    {
+        self.state.front().know_book();
+    }
+
     /// The greatest version that the session knows of a receipt. It takes no memory, and O(1) time.
     pub fn mark(&self) -> u64
         ensures { result ≡ self.now.session.mark }
@@ -93,8 +108,9 @@ impl<B: ClusterName> Client<B> {
 
     /// The version that the open transaction reads at, if there is one. It takes no memory, and O(1) time.
     pub fn read_version(&self) -> Option<u64>
-        ensures { result
+        ensures value { result
             ≡ option_map (λ (transcript : ATranscript). transcript.read_version) self.now.session.current }
+        ensures none { IfNone result (self.now.session.current ≡ None) }
     {
         self.state.read_version()
     }
@@ -105,6 +121,12 @@ impl<B: ClusterName> Client<B> {
         ensures answers { Answers result (unless_submitted self.old (begin_fault self.old.session)) (λ version.
             (version ≡ max granted.now.committed self.old.session.mark)
             × (self.new ≡ record self.old { session = beginning self.old.session granted.now })) }
+        ensures opened { IfOk result (λ version. (version ≡ max granted.now.committed self.old.session.mark)
+            × (self.new.session ≡ beginning self.old.session granted.now)) }
+        ensures begins { OnOk result (IsPrefix self.old.session.front self.new.session.front) }
+        ensures reaches { IfOk result (λ version. version ≤ last_version self.new.session.front) }
+        ensures why { self.old.submitted ≡ None → IfErr result (λ why. (why ≡ Exhausted) ⊎ (why ≡ NoMemory)) }
+        ensures submitted { self.new.submitted ≡ self.old.submitted }
         ensures refused { OnErr result (self.new ≡ self.old) }
     {
         if self.submitted.is_some() {
@@ -120,9 +142,58 @@ impl<B: ClusterName> Client<B> {
               session = with_current self.old.session
                   (Some (with_op transcript (operation.Write mutation.now) answer.Done));
             })) }
+        ensures submitted { self.new.submitted ≡ self.old.submitted }
         ensures refused { OnErr result (self.new ≡ self.old) }
     {
         self.state.write(mutation)
+    }
+
+    /// The open transaction adds the range to its read set, as `SessionState::add_read` does and refuses.
+    pub fn add_read(&mut self, range: &KeyRange) -> Result<(), Refusal>
+        ensures answers { OfOpen self.old.session.current result (λ transcript.
+            Answers result None (λ _. self.new ≡ record self.old {
+              session = with_current self.old.session
+                  (Some (with_op transcript (operation.AddRead range.now) answer.Done));
+            })) }
+        ensures submitted { self.new.submitted ≡ self.old.submitted }
+        ensures refused { OnErr result (self.new ≡ self.old) }
+    {
+        self.state.add_read(range)
+    }
+
+    /// The open transaction adds the range to its write set, as `SessionState::add_write` does and refuses.
+    pub fn add_write(&mut self, range: &KeyRange) -> Result<(), Refusal>
+        ensures answers { OfOpen self.old.session.current result (λ transcript.
+            Answers result None (λ _. self.new ≡ record self.old {
+              session = with_current self.old.session
+                  (Some (with_op transcript (operation.AddWrite range.now) answer.Done));
+            })) }
+        ensures submitted { self.new.submitted ≡ self.old.submitted }
+        ensures refused { OnErr result (self.new ≡ self.old) }
+    {
+        self.state.add_write(range)
+    }
+
+    /// Learns of a receipt, as `SessionState::learn` does and refuses. Refused as `WrongState` while the session isn't
+    /// told what became of the transaction that it submitted; then nothing changes.
+    pub fn learn(&mut self, receipt: &Receipt<B>) -> Result<(), Refusal>
+        ensures answers { Answers result (unless_submitted self.old None)
+            (λ _. self.new ≡ record self.old { session = learning self.old.session receipt.now }) }
+        ensures begins { OnOk result (IsPrefix self.old.session.front self.new.session.front) }
+        ensures submitted { self.new.submitted ≡ self.old.submitted }
+        ensures refused { OnErr result (self.new ≡ self.old) }
+    {
+        if self.submitted.is_some() {
+            return Err(Refusal::WrongState);
+        }
+        self.state.learn(receipt)
+    }
+
+    /// Whether the open transaction's own writes decide the key, as `SessionState::decides` says.
+    pub fn decides(&self, key: &Key) -> bool
+        ensures { result ≡ own_writes_decide self.now.session.current key.now }
+    {
+        self.state.decides(key)
     }
 
     /// The value of the key after the open transaction's own writes, as `SessionState::get_at` gives and refuses it.
@@ -142,6 +213,85 @@ impl<B: ClusterName> Client<B> {
         ensures refused { OnErr result (self.new ≡ self.old) }
     {
         self.state.get_at(at, key, is_snapshot)
+    }
+
+    /// The value of the key that the open transaction's own writes decide, as `SessionState::get_decided` gives and
+    /// refuses it.
+    pub fn get_decided(
+        &mut self,
+        alloc: Global,
+        key: &Key,
+        is_snapshot: bool,
+    ) -> Result<Option<Bytes>, Refusal>
+        ensures answered { IfOk result (λ value. HasRead B.config.resolver_splits self.old.session
+            (operation.Get key.now is_snapshot) (answer.Value value) self.new.session) }
+        ensures none { self.old.session.current ≡ None → result ≡ Err NoTransaction }
+        ensures fault { IfSome self.old.session.current (λ transcript. RefusedBy result
+            (if decided (program transcript.ops) key.now then None else Some KeyOutsideLegalRange)) }
+        ensures submitted { self.new.submitted ≡ self.old.submitted }
+        ensures refused { OnErr result (self.new ≡ self.old) }
+    {
+        self.state.get_decided(alloc, key, is_snapshot)
+    }
+
+    /// The pairs of the range after the open transaction's own writes, as `SessionState::get_range_at` gives and
+    /// refuses them.
+    pub fn get_range_at(
+        &mut self,
+        alloc: Global,
+        shards: &[&ShardAt<B>],
+        range: &KeyRange,
+        limit: u32,
+        reverse: bool,
+        is_snapshot: bool,
+    ) -> Result<Items<(Key, Bytes)>, Refusal>
+        ensures answered { IfOk result (λ pairs. HasRead B.config.resolver_splits self.old.session
+            (operation.Range range.now limit reverse is_snapshot) (answer.Pairs pairs) self.new.session) }
+        ensures none { self.old.session.current ≡ None → result ≡ Err NoTransaction }
+        ensures fault { IfSome self.old.session.current (λ transcript. RefusedBy result
+            (lending_fault transcript.read_version range.now (lent_shards shards.now))) }
+        ensures submitted { self.new.submitted ≡ self.old.submitted }
+        ensures refused { OnErr result (self.new ≡ self.old) }
+    {
+        self.state
+            .get_range_at(alloc, shards, range, limit, reverse, is_snapshot)
+    }
+
+    /// The version that the open transaction reads at, and the session's front once more, which reaches it, as
+    /// `SessionState::share_open` gives and refuses them.
+    pub fn share_open(&self) -> Result<(u64, KnownFront<B>), Refusal>
+        ensures answers { OfOpen self.now.session.current result (λ transcript. Answers result None
+            (λ shared. shared ≡ (transcript.read_version, self.now.session.front))) }
+        ensures reached { IfOk result (λ shared. shared.0 ≤ last_version shared.1) }
+    {
+        self.state.share_open()
+    }
+
+    /// The pairs of the range after the open transaction's own writes on a snapshot, as `Txn::get_range` gives them,
+    /// noted with the operation. The snapshot is the serial map of the session's front at the read version. Refused as
+    /// `NoTransaction` where none is open, else as `Txn::get_range` is; then nothing changes.
+    pub fn get_range_on<S: Snapshot>(
+        &mut self,
+        snapshot: &S,
+        range: &KeyRange,
+        limit: u32,
+        reverse: bool,
+        is_snapshot: bool,
+    ) -> Result<Items<(Key, Bytes)>, Refusal>
+        requires version { IfSome self.old.session.current
+            (λ transcript. S.at snapshot.now ≡ transcript.read_version) }
+        requires run { IfSome self.old.session.current (λ transcript. S.map snapshot.now
+            ≡ run_of B.config transcript.read_version self.old.session.front) }
+        ensures answered { IfOk result (λ pairs. HasRead B.config.resolver_splits self.old.session
+            (operation.Range range.now limit reverse is_snapshot) (answer.Pairs pairs) self.new.session) }
+        ensures none { self.old.session.current ≡ None → result ≡ Err NoTransaction }
+        ensures fault { IfSome self.old.session.current
+            (λ transcript. RefusedBy result (S.range_fault snapshot.now range.now)) }
+        ensures submitted { self.new.submitted ≡ self.old.submitted }
+        ensures refused { OnErr result (self.new ≡ self.old) }
+    {
+        self.state
+            .get_range(snapshot, range, limit, reverse, is_snapshot)
     }
 
     /// Ends the open transaction. Where it wrote nothing, it has its receipt, at its read version. Else it is
@@ -204,6 +354,8 @@ impl<B: ClusterName> Client<B> {
             → (result ≡ Err (record { why = WrongState; back = None })) × (self.new ≡ self.old) }
         ensures ends { IfSome self.old.submitted (λ transcript. (self.new.submitted ≡ None)
             × CommitEnds B.config self.old.session transcript result self.new.session) }
+        ensures told { IfSome self.old.submitted (λ transcript.
+            IsToldSo B.config self.old.session transcript told result self.new.session) }
     {
         match mem::replace(&mut self.submitted, None) {
             Some(submitted) => self.state.end(book, submitted, told),

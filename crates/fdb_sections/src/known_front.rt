@@ -45,8 +45,8 @@ impl<B: ClusterName> KnownFront<B> {
         })
     }
 
-    /// The front, lent.
-    pub(crate) fn front(&self) -> &Front<B>
+    /// The front, lent. It takes no memory, and O(1) time.
+    pub fn front(&self) -> &Front<B>
         ensures value { result.now ≡ self.now }
         ensures entries { AreEntries (suc (length B.config.resolver_splits)) 0 self.now }
     {

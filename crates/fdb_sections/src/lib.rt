@@ -5,6 +5,7 @@
 
 mod client;
 mod known_front;
+pub mod laws;
 mod locked;
 mod machines;
 mod making;
@@ -22,6 +23,7 @@ pub use locked::inbox::Inbox;
 pub use locked::log_state::LogState;
 pub use locked::shard_state::ShardState;
 pub use machines::commit_proxy::{CommitMachine, Next};
+pub use machines::pull::{PullMachine, PullNext};
 pub use machines::read_version_proxy::ReadVersionMachine;
 pub use machines::resolver::{ResolverMachine, SentPart, SentVerdicts};
 pub use making::{add, both, why_of};
@@ -39,6 +41,7 @@ pub use roles::log::{AckMessage, LogAt};
 pub use roles::resolver::ResolverAt;
 pub use roles::sequencer::{GrantMessage, Issued, Reported, SequencerAt};
 pub use roles::shard::ShardAt;
+pub use roles::shard::gathering::Gathering;
 pub use session_state::SessionState;
 pub use session_state::settling::Ended;
 pub use session_state::submitted::Submitted;

@@ -11,9 +11,11 @@ use Rattle.fdb_play.specs.play.Scripts.{Knows, Plays, Printed}
 use Rattle.fdb_print.specs.Stops.{printed_line}
 use Rattle.fdb_load.specs.declared.load.Load.{Load}
 use Rattle.fdb_load.specs.Reports.{PrintsEnd}
+use Rattle.fdb_simulate.specs.declared.simulation.Simulation.{Simulation}
+use Rattle.fdb_simulate.specs.Reports.{SimulationPrints}
 use Rattle.fdb_sim.specs.command.Options.{IsWorkloadParser, commands}
 use Rattle.fdb_sim.specs.command.Tasks.{IsAsked}
-use Rattle.fdb_sim.specs.declared.command.task.Task.TheVariants.{Random, Run, Threads}
+use Rattle.fdb_sim.specs.declared.command.task.Task.TheVariants.{Random, Run, Simulate, Threads}
 use Rattle.fdb_sim.specs.declared.command.task.Schedule.{Schedule}
 
 -- what an error of the kind leads to: help goes to the output with status 0, and of any other kind nothing does
@@ -42,6 +44,13 @@ RunsThreads app words old new status =
     × (load : Load) × IsAsked (subcommand_of app words) (Threads load)
     × Printed old new (λ printed. PrintsEnd load printed status)
 
+-- the words ask for a simulation, of which the report is printed
+abbrev pub Simulates : App → List Text → Option (List ℕ) → Option (List ℕ) → ℕ → Type 0
+Simulates app words old new status =
+    (fault_of app words ≡ [])
+    × (asked : Simulation) × IsAsked (subcommand_of app words) (Simulate asked)
+    × Printed old new (λ printed. SimulationPrints asked printed status)
+
 -- the words are at fault, and end by the kind of one of their faults
 abbrev pub AreRefused : App → List Text → Option (List ℕ) → Option (List ℕ) → ℕ → Type 0
 AreRefused app words old new status =
@@ -60,10 +69,11 @@ abbrev pub ObeysBy : App → List Text → Option (List ℕ) → Option (List �
 ObeysBy app words input old new status =
     PlaysScript app words input old new status
     ⊎ (DrawsSteps app words old new status
-    ⊎ (RunsThreads app words old new status ⊎ AreRefused app words old new status))
+    ⊎ (RunsThreads app words old new status
+    ⊎ (Simulates app words old new status ⊎ AreRefused app words old new status)))
 
--- Words play the script of the input exactly where they ask for `run`, draw steps or run threads where they ask for
--- that, and else end by their fault, unless memory runs out.
+-- Words play the script of the input exactly where they ask for `run`, draw steps, run threads or simulate where they
+-- ask for that, and else end by their fault, unless memory runs out.
 abbrev pub Obeys : List Text → Option (List ℕ) → Option (List ℕ) → Option (List ℕ) → Option (List ℕ)
     → Option (List ℕ) → ℕ → Type 0
 Obeys words input old new err_old err_new status =

@@ -14,6 +14,7 @@ use clap::Error;
 use clap::error::ErrorKind;
 use fdb_load::run_threads;
 use fdb_play::{Sink, Source, run_random, run_script};
+use fdb_simulate::run_simulation;
 use std::alloc::Global;
 use std::io;
 use std::sync::Wait;
@@ -27,9 +28,9 @@ const BAD_WORDS: u8 = 2;
 const HELPED: u8 = 0;
 
 /// Runs the command that the words give, which are those after the program's own name, and answers the
-/// status. `run` runs the script that the reader gives, `random` steps that are drawn from a seed, and `threads`
-/// clients of a database in threads; each prints to `out`, and how far the latter two are goes to `err` where it is
-/// asked for.
+/// status. `run` runs the script that the reader gives, `random` steps that are drawn from a seed, `threads` clients of
+/// a database in threads, and `simulate` clients of such a database in one thread; each prints to `out`, and how far
+/// `random` and `threads` are goes to `err` where it is asked for.
 ///
 /// Words that ask for help print it to `out`, with status 0. Others that give no command print what is wrong
 /// with them to `err`, with status 2 and nothing on `out`. Where memory runs out while they are read it does so too,
@@ -58,6 +59,7 @@ pub fn run_words<
         Ok(Task::Run) => run_script(alloc, reader, out),
         Ok(Task::Random(schedule)) => draw(rt, alloc, &schedule, out, err),
         Ok(Task::Threads(load)) => run_threads(rt, alloc, &load, out, err),
+        Ok(Task::Simulate(asked)) => run_simulation(alloc, &asked, out),
         Err(fault) => print_fault(&fault, out, err),
     }
 }

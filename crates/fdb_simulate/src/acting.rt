@@ -6,13 +6,11 @@ use bytes::Bytes;
 use fdb_keys::{Key, KeyRange, Refusal};
 use fdb_mutations::Mutation;
 use fdb_sections::{
-    Asked, Client, ClusterName, CommitReply, LogState, Next, PeekMessage, ShardState,
+    Asked, Client, ClusterName, CommitReply, LogState, Next, PullMachine, PullNext, ShardAt,
+    ShardState,
 };
 use fdb_txn::{Move, Sealed, WINDOW};
 use std::alloc::{AllocError, Global};
-
-// How many messages a shard pulls at once.
-const PULL_LIMIT: u32 = 256;
 
 // The key has the number from now on. Refused as `NoMemory`.
 fn set_to(alloc: Global, key: &Key, number: u64) -> Result<Mutation, Refusal> {
@@ -46,54 +44,82 @@ fn read_key<B: ClusterName>(
     Ok(())
 }
 
-// A shard pulls what its log has for it. Answers whether that was anything.
-fn pull<B: ClusterName>(
-    log: &mut LogState<B>,
-    shard: &mut ShardState<B>,
-    tag: u32,
-) -> Result<bool, Refusal> {
-    let given = log.peek(tag, shard.version(), PULL_LIMIT)?;
-    let taken = apply(log, shard, tag, &given);
-    drop(given);
-    taken
-}
-
-// It applies what the log gave, and has it dropped there.
-fn apply<B: ClusterName>(
-    log: &mut LogState<B>,
-    shard: &mut ShardState<B>,
-    tag: u32,
-    given: &PeekMessage<B>,
-) -> Result<bool, Refusal> {
-    if given.is_empty() {
-        return Ok(false);
+// The client's open transaction reads some pairs of the range at the shards from that number on, which have come to its
+// read version.
+fn read_range<B: ClusterName>(
+    client: &mut Client<B>,
+    alloc: Global,
+    shards: &[ShardState<B>],
+    first: usize,
+    range: &KeyRange,
+    limit: u32,
+    reverse: bool,
+) -> Result<(), Refusal> {
+    let mut lent: Vec<&ShardAt<B>> = Vec::with_capacity(alloc, shards.len())?;
+    for shard in shards.iter().skip(first) {
+        lent.push(&shard.at)?;
     }
-    shard.apply(given)?;
-    log.pop(tag, given.through())?;
-    Ok(true)
+    drop(client.get_range_at(alloc, lent.as_slice(), range, limit, reverse, false)?);
+    Ok(())
 }
 
-// A shard goes on, and forgets what lies below the floor. Where the log has ended and has no more, or the shard fails,
-// it ends. Answers whether anything changed.
+// Whether a reader at the version waits on for one of the shards from that number on.
+fn are_behind<B: ClusterName>(shards: &[ShardState<B>], first: usize, version: u64) -> bool {
+    shards
+        .iter()
+        .skip(first)
+        .any(|shard| shard.is_behind(version))
+}
+
+// A shard's pull does what it wants next, if it can, until the shard ends. Answers whether anything changed.
 fn go_on<B: ClusterName>(
+    pull: &mut PullMachine<B>,
     log: &mut LogState<B>,
     shard: &mut ShardState<B>,
-    tag: u32,
-    floor: u64,
+    committed: u64,
 ) -> bool {
-    if shard.ended.is_some() || log.is_behind(shard.version()) {
+    if shard.ended.is_some() {
         return false;
     }
-    match pull(log, shard, tag) {
-        Ok(true) => {
-            if 0 < floor && floor <= shard.version() {
-                let _ = shard.forget(floor);
+    match pull.next() {
+        PullNext::Messages(after) => {
+            if log.is_behind(after) {
+                return false;
             }
+            pull.peek_at(log);
         }
-        Ok(false) => shard.end(log.ended().unwrap_or(Refusal::Failed)),
-        Err(_why) => shard.end(Refusal::Failed),
+        PullNext::Apply => pull.apply_to(shard),
+        PullNext::Drop => pull.drop_at(log),
+        PullNext::Forget => pull.forget_in(shard, committed),
+        PullNext::End(why) => shard.end(why),
     }
     true
+}
+
+// The log that the draw is for takes nothing any more.
+fn fail_log<B: ClusterName>(logs: &mut Vec<LogState<B>>, drawn: usize) {
+    let count = logs.len();
+    if count == 0 {
+        return;
+    }
+    if let Some(log) = logs.get_mut(drawn % count) {
+        log.end(Refusal::Failed);
+    }
+}
+
+// The shard that the draw is for pulls nothing any more. Answers whether there is one.
+fn fail_shard<B: ClusterName>(shards: &mut Vec<ShardState<B>>, drawn: usize) -> bool {
+    let count = shards.len();
+    if count == 0 {
+        return false;
+    }
+    match shards.get_mut(drawn % count) {
+        Some(shard) => {
+            shard.end(Refusal::Failed);
+            true
+        }
+        None => false,
+    }
 }
 
 impl<B: ClusterName> Sim<B> {
@@ -178,10 +204,14 @@ impl<B: ClusterName> Sim<B> {
         }
     }
 
-    // It asks for a read version, unless the play is over or the database is closed.
+    // It asks for a read version, unless the play is over or the database is closed. Now and then it is another session
+    // from then on, which knows nothing.
     fn ask(&mut self, number: u32) {
         if self.is_over || self.is_closed {
             return;
+        }
+        if self.draw(64) == 0 {
+            self.replace(number);
         }
         let greatest = self.told.greatest;
         let count = self.roles.begins.len();
@@ -200,8 +230,26 @@ impl<B: ClusterName> Sim<B> {
         }
     }
 
-    // It reads a key that is drawn, once the key's shard has come to its read version.
+    // A new session takes the client's place, if there is memory for it.
+    fn replace(&mut self, number: u32) {
+        let fresh = self.next_session;
+        let made = Client::new(self.alloc, &self.cells.book, fresh);
+        if let (Ok(client), Some(player)) = (made, self.players.get_mut(number as usize)) {
+            player.client = client;
+            self.next_session = fresh.saturating_add(1);
+        }
+    }
+
+    // It reads a key or a range that is drawn, once their shards have come to its read version.
     fn read(&mut self, number: u32) {
+        if self.draw(4) == 0 {
+            self.read_pairs(number);
+        } else {
+            self.read_value(number);
+        }
+    }
+
+    fn read_value(&mut self, number: u32) {
         let count = count_of(self.keys.len());
         let drawn = self.draw(count);
         let Some(key) = self.keys.get(drawn as usize) else {
@@ -218,8 +266,52 @@ impl<B: ClusterName> Sim<B> {
         if shard.is_behind(version) {
             return;
         }
-        match read_key(&mut player.client, shard, version, key) {
+        let read = read_key(&mut player.client, shard, version, key);
+        self.end_read(number, version, read);
+    }
+
+    fn read_pairs(&mut self, number: u32) {
+        let count = count_of(self.keys.len());
+        let (first, last) = (self.draw(count), self.draw(count));
+        let (limit, reverse) = (self.draw(4), self.draw(2) == 0);
+        let (Some(begin), Some(end)) = (self.keys.get(first as usize), self.keys.get(last as usize))
+        else {
+            return;
+        };
+        let Ok(range) = KeyRange::new(self.alloc, begin.bytes(), end.bytes()) else {
+            return;
+        };
+        let first_met = self.roles.shard_map.first_met(&range) as usize;
+        let Some(player) = self.players.get_mut(number as usize) else {
+            return;
+        };
+        let version = player.client.read_version().unwrap_or(0);
+        if are_behind(self.roles.shards.as_slice(), first_met, version) {
+            return;
+        }
+        let read = read_range(
+            &mut player.client,
+            self.alloc,
+            self.roles.shards.as_slice(),
+            first_met,
+            &range,
+            limit,
+            reverse,
+        );
+        self.end_read(number, version, read);
+    }
+
+    // It goes on to write, or begins anew where it was refused. A version that isn't too old isn't forgotten.
+    fn end_read(&mut self, number: u32, version: u64, read: Result<(), Refusal>) {
+        match read {
             Ok(()) => self.wish(number, Wish::Write),
+            Err(Refusal::TransactionTooOld) => {
+                Tally::add(&mut self.told.tally.forgotten);
+                if version >= self.roles.sequencer.committed().saturating_sub(WINDOW) {
+                    Tally::add(&mut self.told.tally.unexplained);
+                }
+                self.refuse(number);
+            }
             Err(_why) => self.refuse(number),
         }
     }
@@ -293,6 +385,7 @@ impl<B: ClusterName> Sim<B> {
             | Next::Entry
             | Next::Verdicts(_)
             | Next::Acknowledgement(_)
+            | Next::Reported
             | Next::End => Ok(()),
         }
     }
@@ -348,18 +441,14 @@ impl<B: ClusterName> Sim<B> {
         }
     }
 
-    // It tells the sequencer once that all logs have its batch.
+    // It tells the sequencer that all logs have its batch.
     fn send_logged(&mut self, number: u32) -> Result<(), AllocError> {
-        if self.is_reporting(number) {
-            return Ok(());
-        }
-        let Some(proxy) = self.roles.commits.get(number as usize) else {
+        let Some(proxy) = self.roles.commits.get_mut(number as usize) else {
             return Ok(());
         };
         match proxy.logged_front() {
             Ok(logged) => {
-                self.count_act();
-                self.set_reporting(number, true);
+                Tally::add(&mut self.told.tally.acts);
                 self.pools.logged.put(number, logged)
             }
             Err(_why) => {
@@ -379,6 +468,22 @@ impl<B: ClusterName> Sim<B> {
                 self.pools.outcomes.put(who, told)
             }
             None => Ok(()),
+        }
+    }
+
+    /// A role that is drawn fails, as it does where memory runs out in it.
+    pub(crate) fn fail_drawn(&mut self) {
+        let kind = self.draw(4);
+        let drawn = self.draw(u32::MAX) as usize;
+        match kind {
+            0 => self.has_hole = true,
+            1 => fail_log(&mut self.roles.logs, drawn),
+            2 => self.lacks_shard = fail_shard(&mut self.roles.shards, drawn),
+            _ => {
+                let count = count_of(self.roles.commits.len());
+                let proxy = self.draw(count);
+                self.fail(proxy);
+            }
         }
     }
 
@@ -433,19 +538,20 @@ impl<B: ClusterName> Sim<B> {
         }
     }
 
-    /// A shard pulls what its log has for it, and forgets what is too old. Where the log has ended and has no more, it
-    /// ends.
+    /// A shard's pull does what it wants next, with its log or the shard.
     pub(crate) fn act_shard(&mut self, tag: u32) {
         let count = self.roles.logs.len();
-        let floor = self.roles.sequencer.committed().saturating_sub(WINDOW);
+        let committed = self.roles.sequencer.committed();
         if count == 0 {
             return;
         }
         let log = self.roles.logs.get_mut(tag as usize % count);
-        let (Some(log), Some(shard)) = (log, self.roles.shards.get_mut(tag as usize)) else {
+        let shard = self.roles.shards.get_mut(tag as usize);
+        let pull = self.roles.pulls.get_mut(tag as usize);
+        let (Some(log), Some(shard), Some(pull)) = (log, shard, pull) else {
             return;
         };
-        if go_on(log, shard, tag, floor) {
+        if go_on(pull, log, shard, committed) {
             self.count_act();
         }
     }

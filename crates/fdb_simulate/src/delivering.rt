@@ -1,12 +1,17 @@
 // What is on its way comes: each kind of message, and what becomes of it.
 use crate::player::Wish;
-use crate::sim::{ADVANCE, Sim};
+use crate::sim::{Sim, count_of};
 use crate::tally::Tally;
 use fdb_client::Transcript;
 use fdb_keys::{Refusal, Refused};
 use fdb_sections::{ClusterName, CommitReply, GrantMessage, GrantReply, Receipt, SentPart};
-use fdb_txn::{Batch, Spot};
+use fdb_txn::{Batch, Spot, TxnId};
 use std::alloc::AllocError;
+
+/// The id as one number.
+pub(crate) fn id_of(id: TxnId) -> u128 {
+    (u128::from(id.session) << 64) | u128::from(id.number)
+}
 
 // The version of a spot.
 fn version_of(spot: Spot) -> u64 {
@@ -40,10 +45,7 @@ impl<B: ClusterName> Sim<B> {
                 Ok(())
             }
             4 => self.push_message(),
-            5 => {
-                self.take_acknowledgement();
-                Ok(())
-            }
+            5 => self.take_acknowledgement(),
             6 => self.report(),
             7 => {
                 self.take_reported();
@@ -75,7 +77,7 @@ impl<B: ClusterName> Sim<B> {
         let issued = self
             .roles
             .sequencer
-            .issue(self.alloc, &self.cells.book, number, ADVANCE, batch);
+            .issue(self.alloc, &self.cells.book, number, self.advance, batch);
         match issued {
             Ok(issued) => self.pools.issued.put(number, issued),
             Err(why) => {
@@ -174,9 +176,14 @@ impl<B: ClusterName> Sim<B> {
         }
         Tally::add(&mut self.told.tally.acts);
         let pushed = log.push(&message);
-        drop(message);
+        if self.comes_again() {
+            self.pools.messages.put(number, message)?;
+        } else {
+            drop(message);
+        }
         match pushed {
             Ok(acknowledgement) => self.pools.acknowledgements.put(number, acknowledgement),
+            Err(Refusal::Stale) => Ok(()),
             Err(_why) => {
                 self.fail(number);
                 Ok(())
@@ -184,21 +191,31 @@ impl<B: ClusterName> Sim<B> {
         }
     }
 
+    // Whether a message that may be sent again is: now and then, until the play is over.
+    fn comes_again(&mut self) -> bool {
+        let is_due = self.draw(16) == 0;
+        is_due && !self.is_over
+    }
+
     // A log's acknowledgement comes to its proxy.
-    fn take_acknowledgement(&mut self) {
+    fn take_acknowledgement(&mut self) -> Result<(), AllocError> {
         let drawn = self.draw(u32::MAX);
         let Some(sent) = self.pools.acknowledgements.take(drawn) else {
-            return;
+            return Ok(());
         };
         self.count_act();
         let number = sent.number;
         let Some(proxy) = self.roles.commits.get_mut(number as usize) else {
-            return;
+            return Ok(());
         };
         match proxy.logged(&sent.message) {
-            Ok(()) | Err(Refusal::Stale) => {}
+            Ok(()) | Err(Refusal::Stale | Refusal::WrongState) => {}
             Err(_why) => self.fail(number),
         }
+        if self.comes_again() {
+            return self.pools.acknowledgements.put(number, sent.message);
+        }
+        Ok(())
     }
 
     // The sequencer takes a report.
@@ -226,7 +243,6 @@ impl<B: ClusterName> Sim<B> {
         };
         self.count_act();
         let number = sent.number;
-        self.set_reporting(number, false);
         let Some(proxy) = self.roles.commits.get_mut(number as usize) else {
             return;
         };
@@ -295,33 +311,51 @@ impl<B: ClusterName> Sim<B> {
         }
     }
 
-    /// A client's transaction is acknowledged.
+    /// A client's transaction is acknowledged, of which another client may learn.
     pub(crate) fn note_receipt(&mut self, number: u32, receipt: Receipt<B>) {
+        self.tell_another(&receipt);
         let version = version_of(receipt.spot());
         self.told.greatest = self.told.greatest.max(version);
-        if self.told.placed.push(receipt.into_placed()).is_ok() {
-            Tally::add(&mut self.told.tally.acknowledged);
-        }
+        Tally::add(&mut self.told.tally.acknowledged);
+        let kept = self.told.placed.push(receipt.into_placed());
+        self.told.lacks_memory = self.told.lacks_memory || kept.is_err();
         self.wish(number, Wish::Begin);
+    }
+
+    // A client that is drawn learns of the receipt, now and then, unless it waits for an answer.
+    fn tell_another(&mut self, receipt: &Receipt<B>) {
+        let is_due = self.draw(8) == 0;
+        let count = count_of(self.players.len());
+        let drawn = self.draw(count);
+        if !is_due {
+            return;
+        }
+        if let Some(player) = self.players.get_mut(drawn as usize) {
+            let _ = player.client.learn(receipt);
+        }
     }
 
     /// A client's transaction is refused.
     pub(crate) fn note_refused(&mut self, number: u32, refused: Refused<Option<Transcript>>) {
         let Refused { why, back } = refused;
-        let id = back.as_ref().map_or(0, |transcript| {
-            (u128::from(transcript.id.session) << 64) | u128::from(transcript.id.number)
-        });
+        let id = back.as_ref().map(|transcript| id_of(transcript.id));
         drop(back);
         match why {
             Refusal::NotCommitted | Refusal::TransactionTooOld => {
                 Tally::add(&mut self.told.tally.turned_down);
             }
             Refusal::CommitUnknownResult => Tally::add(&mut self.told.tally.unknown),
-            _ => {
-                Tally::add(&mut self.told.tally.refused);
-                let _ = self.told.absent.push(id);
-            }
+            _ => self.note_absent(id),
         }
         self.wish(number, Wish::Begin);
+    }
+
+    // A transaction is refused as having no effect, of which that is the id if it was finished.
+    fn note_absent(&mut self, id: Option<u128>) {
+        Tally::add(&mut self.told.tally.refused);
+        if let Some(id) = id {
+            let kept = self.told.absent.push(id);
+            self.told.lacks_memory = self.told.lacks_memory || kept.is_err();
+        }
     }
 }

@@ -4,15 +4,16 @@ use fdb_sections::{ClusterName, Next};
 use std::alloc::AllocError;
 
 // How many rounds there are at most. What is left then waits.
-const ROUNDS: u32 = 20_000;
+const ROUNDS: u32 = 1_000_000;
 
-// After so many rounds in which nothing changed nothing will: a message whose turn it isn't may have been drawn.
-const IDLE_ROUNDS: u32 = 64;
+// After so many rounds for each message that is on its way, and so many more, in which nothing changed nothing will: in
+// a round a message of each kind is drawn, and of many that wait for others only one may be one whose turn it is.
+const IDLE_ROUNDS: usize = 64;
 
 impl<B: ClusterName> Sim<B> {
     /// Goes round until nothing changes any more. It fails only where memory runs out.
     pub(crate) fn drain(&mut self) -> Result<(), AllocError> {
-        let mut idle: u32 = 0;
+        let mut idle: usize = 0;
         for _round in 0..ROUNDS {
             let before = self.told.tally.acts;
             self.go_round()?;
@@ -21,7 +22,12 @@ impl<B: ClusterName> Sim<B> {
             } else {
                 0
             };
-            if idle >= IDLE_ROUNDS && !self.fail_without_verdicts() {
+            let most = self
+                .pools
+                .count()
+                .saturating_add(1)
+                .saturating_mul(IDLE_ROUNDS);
+            if idle >= most && !self.fail_without_verdicts() {
                 return Ok(());
             }
         }

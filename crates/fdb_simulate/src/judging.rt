@@ -1,4 +1,6 @@
 // Whether what the clients were told agrees with the record.
+use crate::delivering::id_of;
+use crate::plan::Plan;
 use crate::sim::Sim;
 use crate::tally::Tally;
 use fdb_check::{CheckFault, JudgedBook};
@@ -14,8 +16,7 @@ fn count_found(entries: &[Entry], ids: &[u128]) -> u64 {
     let mut found = 0;
     for entry in entries {
         for sealed in entry.batch.as_slice() {
-            let id = (u128::from(sealed.id().session) << 64) | u128::from(sealed.id().number);
-            if ids.binary_search(&id).is_ok() {
+            if ids.binary_search(&id_of(sealed.id())).is_ok() {
                 Tally::add(&mut found);
             }
         }
@@ -23,37 +24,68 @@ fn count_found(entries: &[Entry], ids: &[u128]) -> u64 {
     found
 }
 
-// The entries of the record, none where there is no record but for lack of memory.
-fn entries_of<B: ClusterName>(
-    alloc: Global,
-    record: Result<Record<B>, Refusal>,
-) -> Result<Vec<Entry>, Refusal> {
+// The entries of the front that was granted. Refused only as `NoMemory`.
+fn entries_of<B: ClusterName>(granted: GrantMessage<B>) -> Result<Vec<Entry>, Refusal> {
+    let front = granted.into_front();
+    let entries = front.front().entries();
+    drop(front);
+    entries
+}
+
+// Whether the shards gave a record. Refused only as `NoMemory`.
+fn is_given<B: ClusterName>(record: Result<Record<B>, Refusal>) -> Result<bool, Refusal> {
     match record {
         Ok(record) => {
-            let entries = record.front().entries();
             drop(record);
-            entries
+            Ok(true)
         }
         Err(Refusal::NoMemory) => Err(Refusal::NoMemory),
-        Err(_why) => Ok(Vec::new(alloc)),
+        Err(_why) => Ok(false),
     }
 }
 
+// How many answers the plan doesn't explain, but for the reads that were noted.
+fn count_unexplained(plan: &Plan, tally: &Tally, is_full: bool) -> u64 {
+    if plan.fails_at.is_some() {
+        return 0;
+    }
+    if plan.closes_at.is_some() || is_full {
+        return tally.unknown;
+    }
+    let refused = tally.refused.saturating_sub(tally.forgotten);
+    tally.unknown.saturating_add(refused)
+}
+
 impl<B: ClusterName> Sim<B> {
-    /// What came of the run, with its receipts and refusals compared with the record. It fails only where memory runs
+    /// What came of the run, with its receipts and refusals compared with the book. It fails only where memory runs
     /// out.
-    pub(crate) fn judge(&mut self, config: &Config) -> Result<Tally, Refusal> {
+    pub(crate) fn judge(&mut self, config: &Config, plan: &Plan) -> Result<Tally, Refusal> {
+        if self.told.lacks_memory {
+            return Err(Refusal::NoMemory);
+        }
         self.told.absent.sort_unstable();
-        let entries = self.entries()?;
-        let judged = self.judge_by(config, entries.as_slice());
+        let granted = self.roles.sequencer.granted()?;
+        let is_recorded = self.lacks_shard || is_given(self.record_at(&granted))?;
+        let entries = entries_of(granted)?;
+        let judged = self.judge_by(config, plan, entries.as_slice(), is_recorded);
         drop(entries);
         judged
     }
 
-    // The same with the record's entries.
-    fn judge_by(&self, config: &Config, entries: &[Entry]) -> Result<Tally, Refusal> {
+    // The same with the book's entries, and whether there is a record.
+    fn judge_by(
+        &self,
+        config: &Config,
+        plan: &Plan,
+        entries: &[Entry],
+        is_recorded: bool,
+    ) -> Result<Tally, Refusal> {
         let checked = self.count_checked(config, entries)?;
         let mut tally = self.told.tally;
+        let is_full = entries.len() == self.cells.limit as usize;
+        let unexplained = count_unexplained(plan, &tally, is_full);
+        tally.unexplained = tally.unexplained.saturating_add(unexplained);
+        tally.is_recorded = is_recorded;
         for player in &self.players {
             if player.waits() {
                 Tally::add(&mut tally.waiting);
@@ -64,14 +96,6 @@ impl<B: ClusterName> Sim<B> {
         tally.found = count_found(entries, self.told.absent.as_slice());
         tally.checked = checked;
         Ok(tally)
-    }
-
-    // The entries of the record, none where the shards don't give one.
-    fn entries(&self) -> Result<Vec<Entry>, Refusal> {
-        let granted = self.roles.sequencer.granted()?;
-        let record = self.record_at(&granted);
-        drop(granted);
-        entries_of(self.alloc, record)
     }
 
     // What the shards have at the version that was granted.

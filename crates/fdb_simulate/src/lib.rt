@@ -10,10 +10,13 @@ mod judging;
 mod plan;
 mod player;
 mod pool;
+mod report;
 mod roles;
 mod sim;
+mod simulation;
 mod tally;
 
 pub use plan::Plan;
 pub use sim::simulate;
+pub use simulation::{Simulation, run_simulation};
 pub use tally::Tally;

@@ -9,7 +9,9 @@ pub struct Plan {
     pub clients: u32,
     /// How many keys they read and write.
     pub keys: u8,
-    /// Before which act a commit proxy fails, if one does.
+    /// How far each entry's version is above that of the one before it.
+    pub advance: u64,
+    /// Before which act a role fails, which is drawn, if one does: a commit proxy, a resolver, a log or a shard.
     pub fails_at: Option<u64>,
     /// Before which act the database is closed, if it is closed before the end.
     pub closes_at: Option<u64>,

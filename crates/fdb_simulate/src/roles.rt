@@ -7,8 +7,8 @@ use fdb_book::Book;
 use fdb_keys::Refusal;
 use fdb_proxy::Config;
 use fdb_sections::{
-    ClusterName, CommitMachine, CommitProxyAt, LogAt, LogState, ReadVersionMachine, ResolverAt,
-    ResolverMachine, SequencerAt, ShardAt, ShardState, both,
+    ClusterName, CommitMachine, CommitProxyAt, LogAt, LogState, PullMachine, ReadVersionMachine,
+    ResolverAt, ResolverMachine, SequencerAt, ShardAt, ShardState, both,
 };
 use fdb_storage::ShardMap;
 use std::alloc::Global;
@@ -20,6 +20,7 @@ pub(crate) struct Roles<B: ClusterName> {
     pub(crate) resolvers: Vec<ResolverMachine<B>>,
     pub(crate) logs: Vec<LogState<B>>,
     pub(crate) shards: Vec<ShardState<B>>,
+    pub(crate) pulls: Vec<PullMachine<B>>,
     pub(crate) shard_map: ShardMap,
     pub(crate) commits: Vec<CommitMachine<B, u32>>,
     pub(crate) begins: Vec<ReadVersionMachine<B, u32>>,
@@ -55,10 +56,11 @@ impl<B: ClusterName> Roles<B> {
         let resolving = make_resolvers(alloc, book, resolvers);
         let logs = make_logs(alloc, book, config.logs, tags);
         let shards = make_shards(alloc, book, config, tags);
+        let pulls = make_pulls(alloc, tags);
         let proxies = make_proxies(alloc, book, config, resolvers);
-        let (sequencer, (resolvers, (logs, (shards, proxies)))) = both(
+        let (sequencer, (resolvers, (logs, (shards, (pulls, proxies))))) = both(
             sequencer,
-            both(resolving, both(logs, both(shards, proxies))),
+            both(resolving, both(logs, both(shards, both(pulls, proxies)))),
         )?;
         let (shard_map, shards) = shards;
         let (commits, begins) = proxies;
@@ -67,6 +69,7 @@ impl<B: ClusterName> Roles<B> {
             resolvers,
             logs,
             shards,
+            pulls,
             shard_map,
             commits,
             begins,
@@ -144,6 +147,17 @@ fn shards_of<B: ClusterName>(
         let range = map.range(tag)?;
         let at = ShardAt::new(alloc, book, tag, range)?;
         made.push(ShardState::new(at))?;
+    }
+    Ok(made)
+}
+
+// The shards' pulls. Refused only as `NoMemory`.
+fn make_pulls<B: ClusterName>(alloc: Global, tags: u32) -> Result<Vec<PullMachine<B>>, Refusal>
+    ensures { Answers result None (λ _. ⊤) }
+{
+    let mut made = Vec::with_capacity(alloc, tags as usize)?;
+    for tag in 0..tags {
+        made.push(PullMachine::new(tag))?;
     }
     Ok(made)
 }

@@ -20,9 +20,6 @@ use rand_core::Rng;
 use rand_pcg::Pcg32;
 use std::alloc::{AllocError, Global};
 
-/// How far each entry's version is above that of the one before it.
-pub(crate) const ADVANCE: u64 = 1_000;
-
 /// What is on its way, each kind by itself.
 #[derive(Drop)]
 pub(crate) struct Pools<B: ClusterName> {
@@ -87,6 +84,8 @@ pub(crate) struct Told {
     pub(crate) placed: Vec<Placed>,
     // The ids of what was refused as having no effect, each as one number.
     pub(crate) absent: Vec<u128>,
+    // There was no memory to keep one of these.
+    pub(crate) lacks_memory: bool,
 }
 
 #[derive(Drop)]
@@ -99,14 +98,18 @@ pub(crate) struct Sim<B: ClusterName> {
     pub(crate) keys: Vec<Key>,
     pub(crate) random: Pcg32,
     pub(crate) told: Told,
-    // For each commit proxy, whether its report is on its way.
-    pub(crate) reporting: Vec<bool>,
     // No transaction begins any more.
     pub(crate) is_over: bool,
     // Commit proxies take nothing any more, and refuse what isn't sealed.
     pub(crate) is_closed: bool,
-    // A proxy failed whose batch has an entry: no resolver takes anything any more.
+    // A resolver failed, or a proxy whose batch has an entry: no resolver takes anything any more.
     pub(crate) has_hole: bool,
+    // A shard failed: there needn't be a record.
+    pub(crate) lacks_shard: bool,
+    // How far each entry's version is above that of the one before it.
+    pub(crate) advance: u64,
+    // The number of the next session.
+    pub(crate) next_session: u32,
 }
 
 /// Plays the plan on a database of the configuration, whose book has the cells, and judges what came of it. Refused as
@@ -133,9 +136,8 @@ pub fn simulate<B: ClusterName>(
     let roles = Roles::new(alloc, &cells.book, config);
     let players = make_players(alloc, &cells.book, plan.clients);
     let keys = make_keys(alloc, plan.keys);
-    let reporting = make_flags(alloc, config.proxies);
-    match both(both(roles, players), both(keys, reporting)) {
-        Ok(((roles, players), (keys, reporting))) => {
+    match both(roles, both(players, keys)) {
+        Ok((roles, (players, keys))) => {
             let sim = Sim {
                 alloc,
                 cells,
@@ -149,11 +151,14 @@ pub fn simulate<B: ClusterName>(
                     greatest: 0,
                     placed: Vec::new(alloc),
                     absent: Vec::new(alloc),
+                    lacks_memory: false,
                 },
-                reporting,
                 is_over: false,
                 is_closed: false,
                 has_hole: false,
+                lacks_shard: false,
+                advance: plan.advance,
+                next_session: plan.clients,
             };
             play_out(sim, config, plan)
         }
@@ -182,17 +187,6 @@ fn make_players<B: ClusterName>(
     Ok(made)
 }
 
-// So many flags, none of which is set. Refused only as `NoMemory`.
-fn make_flags(alloc: Global, count: u32) -> Result<Vec<bool>, Refusal>
-    ensures { IfErr result (λ why. why ≡ NoMemory) }
-{
-    let mut made = Vec::with_capacity(alloc, count as usize)?;
-    for _made in 0..count {
-        made.push(false)?;
-    }
-    Ok(made)
-}
-
 // So many keys. Refused only as `NoMemory`.
 fn make_keys(alloc: Global, count: u8) -> Result<Vec<Key>, Refusal>
     ensures { IfErr result (λ why. why ≡ NoMemory) }
@@ -204,8 +198,8 @@ fn make_keys(alloc: Global, count: u8) -> Result<Vec<Key>, Refusal>
     Ok(made)
 }
 
-// The key of the number. Refused only as `NoMemory`.
-fn key_of(alloc: Global, number: u8) -> Result<Key, Refusal>
+/// The key of the number. Refused only as `NoMemory`.
+pub(crate) fn key_of(alloc: Global, number: u8) -> Result<Key, Refusal>
     ensures { IfErr result (λ why. why ≡ NoMemory) }
 {
     match Key::new(alloc, &[b'k', number]) {
@@ -240,7 +234,7 @@ impl<B: ClusterName> Sim<B> {
         ensures { IfErr result (λ why. why ≡ NoMemory) }
     {
         self.play(plan)?;
-        match self.judge(config) {
+        match self.judge(config, plan) {
             Ok(tally) => Ok(tally),
             Err(_no_memory) => Err(Refusal::NoMemory),
         }
@@ -251,9 +245,7 @@ impl<B: ClusterName> Sim<B> {
     fn play(&mut self, plan: &Plan) -> Result<(), AllocError> {
         for step in 0..plan.steps {
             if plan.fails_at == Some(step) {
-                let count = count_of(self.roles.commits.len());
-                let proxy = self.draw(count);
-                self.fail(proxy);
+                self.fail_drawn();
             }
             if plan.closes_at == Some(step) {
                 self.is_closed = true;
@@ -271,18 +263,6 @@ impl<B: ClusterName> Sim<B> {
             return 0;
         }
         drawn % count
-    }
-
-    /// Whether the report of the commit proxy is on its way.
-    pub(crate) fn is_reporting(&self, number: u32) -> bool {
-        self.reporting.get(number as usize) == Some(&true)
-    }
-
-    /// The report of the commit proxy is on its way from now on, or isn't any more.
-    pub(crate) fn set_reporting(&mut self, number: u32, is_reporting: bool) {
-        if let Some(flag) = self.reporting.get_mut(number as usize) {
-            *flag = is_reporting;
-        }
     }
 
     /// One more act changed something.

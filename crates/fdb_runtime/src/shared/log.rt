@@ -1,6 +1,6 @@
 use crate::shared::waiting::give_way;
 use fdb_keys::Refusal;
-use fdb_sections::{AckMessage, ClusterName, LogAt, LogMessage, LogState, PeekMessage};
+use fdb_sections::{AckMessage, ClusterName, LogAt, LogMessage, LogState, PullMachine};
 use std::sync::{Condvar, Mutex, Wait};
 
 /// A log that threads share.
@@ -38,26 +38,21 @@ impl<B: ClusterName> SharedLog<B> {
         answer
     }
 
-    /// Waits until there is a message of the tag after the version, and gives the first `limit` of them, none where the
-    /// log has ended and has no more. Refused as `LogAt::peek` refuses it.
-    pub(crate) fn peek<R: Wait>(
-        &self,
-        rt: &R,
-        tag: u32,
-        after: u64,
-        limit: u32,
-    ) -> Result<PeekMessage<B>, Refusal> {
+    /// Waits until there is a message after the version, or the log has ended, and lends the log to the pull, which
+    /// takes what there is.
+    pub(crate) fn peek<R: Wait>(&self, rt: &R, after: u64, pull: &mut PullMachine<B>) {
         give_way(rt, &self.state, |state| state.is_behind(after));
         let guard = self.state.lock(rt);
         let state = self
             .changed
             .wait_while(rt, guard, |state| state.is_behind(after));
-        state.peek(tag, after, limit)
+        pull.peek_at(&state);
     }
 
-    /// Drops the tag's messages through a version. It takes no memory. Refused as `LogAt::pop` refuses it.
-    pub(crate) fn pop<R: Wait>(&self, rt: &R, tag: u32, through: u64) -> Result<(), Refusal> {
-        self.state.lock(rt).pop(tag, through)
+    /// Lends the log to the pull, which has it drop what was applied. It takes no memory.
+    pub(crate) fn drop_applied<R: Wait>(&self, rt: &R, pull: &mut PullMachine<B>) {
+        let mut state = self.state.lock(rt);
+        pull.drop_at(&mut state);
     }
 
     /// Nothing is pushed any more, for the first reason that was given, and nobody waits any longer. It takes no
@@ -65,11 +60,6 @@ impl<B: ClusterName> SharedLog<B> {
     pub(crate) fn end<R: Wait>(&self, rt: &R, why: Refusal) {
         self.state.lock(rt).end(why);
         self.changed.notify_all();
-    }
-
-    /// Why nothing is pushed any more, if that is so. It takes no memory.
-    pub(crate) fn ended<R: Wait>(&self, rt: &R) -> Option<Refusal> {
-        self.state.lock(rt).ended()
     }
 
     /// Whether the log has failed. It takes no memory.

@@ -101,6 +101,7 @@ impl<B: ClusterName> CommitWorker<B> {
             Next::Message => self.push_message(rt, shared),
             Next::Acknowledgement(_) => Err(Refusal::Failed),
             Next::Report => self.report(rt, gate, shared),
+            Next::Reported => Err(Refusal::Failed),
             Next::Answer => {
                 self.tell_all(rt);
                 Ok(())

@@ -1,16 +1,10 @@
 use crate::gate::Pass;
 use crate::shared::Shared;
-use crate::shared::log::SharedLog;
-use crate::shared::shard::SharedShard;
 use crate::threads::gated::Gated;
 use crate::threads::worker::Worker;
 use fdb_keys::Refusal;
-use fdb_sections::{ClusterName, PeekMessage};
-use fdb_txn::WINDOW;
+use fdb_sections::{ClusterName, PullMachine, PullNext};
 use std::sync::Wait;
-
-// How many messages a shard pulls at once.
-const PULL_LIMIT: u32 = 256;
 
 /// The thread of the shard with the tag, which stands among what all threads share.
 #[derive(Drop)]
@@ -32,49 +26,14 @@ fn run_shard<B: ClusterName, R: Wait>(rt: &R, shared: &Shared<B>, tag: u32) {
     let Some(log) = shared.log_of(tag) else {
         return shard.end(rt, Refusal::Failed);
     };
+    let mut pull = PullMachine::new(tag);
     for _ in rt.forever() {
-        match pull(rt, shard, log, tag) {
-            Ok(true) => forget(rt, shared, shard),
-            Ok(false) => return shard.end(rt, log.ended(rt).unwrap_or(Refusal::Failed)),
-            Err(_) => return shard.end(rt, Refusal::Failed),
+        match pull.next() {
+            PullNext::Messages(after) => log.peek(rt, after, &mut pull),
+            PullNext::Apply => shard.apply(rt, &mut pull),
+            PullNext::Drop => log.drop_applied(rt, &mut pull),
+            PullNext::Forget => shard.forget(rt, &mut pull, shared.committed(rt)),
+            PullNext::End(why) => return shard.end(rt, why),
         }
-    }
-}
-
-// Pulls and applies some messages, and drops them at the log. Answers whether there were any.
-fn pull<B: ClusterName, R: Wait>(
-    rt: &R,
-    shard: &SharedShard<B>,
-    log: &SharedLog<B>,
-    tag: u32,
-) -> Result<bool, Refusal> {
-    let after = shard.version(rt);
-    let given = log.peek(rt, tag, after, PULL_LIMIT)?;
-    let taken = take(rt, shard, log, tag, &given);
-    drop(given);
-    taken
-}
-
-// Applies what the log gave, and drops it there. Answers whether it was any.
-fn take<B: ClusterName, R: Wait>(
-    rt: &R,
-    shard: &SharedShard<B>,
-    log: &SharedLog<B>,
-    tag: u32,
-    given: &PeekMessage<B>,
-) -> Result<bool, Refusal> {
-    if given.is_empty() {
-        return Ok(false);
-    }
-    shard.apply(rt, given)?;
-    log.pop(rt, tag, given.through())?;
-    Ok(true)
-}
-
-// Forgets versions that are too old to be read at.
-fn forget<B: ClusterName, R: Wait>(rt: &R, shared: &Shared<B>, shard: &SharedShard<B>) {
-    let floor = shared.committed(rt).saturating_sub(WINDOW);
-    if 0 < floor && floor <= shard.version(rt) {
-        let _ = shard.forget(rt, floor);
     }
 }

@@ -1,10 +1,10 @@
 ghost use Rattle.std.specs.Prelude.{◌≡◌, ◌&&◌, ◌⊎◌, ⊤, not, nat_lt, None, Some, IsNone, IsSome, OnErr};
-ghost use Rattle.std.specs.Option.{is_none, option_or};
+ghost use Rattle.std.specs.Option.{is_none};
 ghost use Rattle.fdb_keys.specs.Answers.{Answers, AnswersExactly};
 ghost use Rattle.fdb_keys.specs.Ranges.{in_range};
 ghost use Rattle.fdb_storage.specs.Shards.{HasFailed, HasForgotten, forget_fault};
 ghost use Rattle.fdb_sections.specs.ShardsAtFronts.{peek_fault, HasGoneOn};
-ghost use Rattle.fdb_sections.specs.Waiting.{is_closed, reach_fault};
+ghost use Rattle.fdb_sections.specs.Waiting.{ended_by, is_closed, reach_fault};
 
 use crate::messages::peek_message::PeekMessage;
 use crate::name::ClusterName;
@@ -72,6 +72,8 @@ impl<B: ClusterName> ShardState<B> {
         ensures refused { IsSome (peek_fault self.old.at given.now) → self.new.at ≡ self.old.at }
         ensures failed { IsNone (peek_fault self.old.at given.now)
             → OnErr result ((self.new.at.shard ≡ self.old.at.shard) ⊎ HasFailed self.old.at.shard self.new.at.shard) }
+        ensures kept { OnErr result
+            ((self.new.at.shard ≡ self.old.at.shard) ⊎ HasFailed self.old.at.shard self.new.at.shard) }
         ensures ended { self.new.ended ≡ self.old.ended }
     {
         self.at.apply(given)
@@ -88,13 +90,13 @@ impl<B: ClusterName> ShardState<B> {
         self.at.forget(version)
     }
 
-    /// The shard's thread pulls nothing any more, for the first reason that was given. It takes no memory, and O(1)
-    /// time.
+    /// The shard's thread pulls nothing any more, for the first reason that was given; but once the database is closed,
+    /// for that, unless memory ran out in the shard. It takes no memory, and O(1) time.
     pub fn end(&mut self, why: Refusal)
-        ensures ended { self.new.ended ≡ option_or self.old.ended (Some why) }
+        ensures ended { self.new.ended ≡ ended_by self.old.at.shard.is_failed self.old.ended why }
         ensures at { self.new.at ≡ self.old.at }
     {
-        if self.ended.is_none() {
+        if self.ended.is_none() || (is_closed(why) && !self.at.is_failed()) {
             self.ended = Some(why);
         }
     }

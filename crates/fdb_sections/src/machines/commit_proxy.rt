@@ -56,6 +56,8 @@ pub enum Next {
     Acknowledgement(u32),
     /// The sequencer is to be told that all logs have the batch.
     Report,
+    /// It waits for what says that the batch is reported.
+    Reported,
     /// An answer is ready for who waits first.
     Answer,
     /// It has failed, and nobody waits.
@@ -75,6 +77,8 @@ enum Phase {
     Logging,
     // All logs have the batch.
     Logged,
+    // What is to be reported of it was given.
+    Reporting,
     // All who wait are refused.
     Refusing(Refusal),
     // The proxy has failed.
@@ -197,6 +201,7 @@ impl<B: ClusterName, W: Drop> CommitMachine<B, W> {
             Phase::Logging if !self.messages.is_empty() => Next::Message,
             Phase::Logging => Next::Acknowledgement(self.logs.saturating_sub(self.left)),
             Phase::Logged => Next::Report,
+            Phase::Reporting => Next::Reported,
             Phase::Refusing(_) => Next::Answer,
             Phase::Failed if !self.waiting.is_empty() => Next::Answer,
             Phase::Failed => Next::End,
@@ -269,6 +274,8 @@ impl<B: ClusterName, W: Drop> CommitMachine<B, W> {
         ensures taken { OnOk result (HasEntered self.old issued.ticket issued.front self.new) }
         ensures waiting { self.new.waiting ≡ self.old.waiting }
         ensures entered { self.new.entered ≡ self.old.entered }
+        ensures kept { OnErr result
+            (self.new ≡ record self.old { front = self.new.front; proxy = self.new.proxy }) }
     {
         let Issued { ticket, front } = issued;
         self.at.learn(&ticket, front)?;
@@ -334,6 +341,8 @@ impl<B: ClusterName, W: Drop> CommitMachine<B, W> {
             ⊎ (why ≡ NoMemory) ⊎ (decide_fault (with_verdict self.old.proxy message.verdicts) ≡ Some why)) }
         ensures waiting { self.new.waiting ≡ self.old.waiting }
         ensures entered { self.new.entered ≡ self.old.entered }
+        ensures kept { OnErr result
+            (self.new ≡ record self.old { proxy = self.new.proxy; left = self.new.left }) }
     {
         self.at.verdict(message)?;
         self.left = self.left.saturating_sub(1);
@@ -349,6 +358,7 @@ impl<B: ClusterName, W: Drop> CommitMachine<B, W> {
         ensures why { IfErr result (λ why. (why ≡ NoMemory) ⊎ (decide_fault self.old.proxy ≡ Some why)) }
         ensures waiting { self.new.waiting ≡ self.old.waiting }
         ensures entered { self.new.entered ≡ self.old.entered }
+        ensures kept { OnErr result (self.new ≡ record self.old { proxy = self.new.proxy }) }
     {
         self.at.decide()?;
         self.messages = self.at.log_messages(self.alloc)?;
@@ -372,12 +382,16 @@ impl<B: ClusterName, W: Drop> CommitMachine<B, W> {
         Ok(())
     }
 
-    /// What is to be reported to the sequencer, once all logs have the batch. Refused as `CommitProxyAt::logged_front`
-    /// refuses it.
-    pub fn logged_front(&self) -> Result<LoggedFront<B>, Refusal>
-        ensures { Answers result (all_logged_fault self.now.proxy) (λ logged. logged ≡ self.now.front) }
+    /// What is to be reported to the sequencer, once all logs have the batch, for which it waits then. Refused as
+    /// `CommitProxyAt::logged_front` refuses it, and then nothing changes.
+    pub fn logged_front(&mut self) -> Result<LoggedFront<B>, Refusal>
+        ensures answers { Answers result (all_logged_fault self.old.proxy) (λ logged.
+            (logged ≡ self.old.front) × (self.new ≡ record self.old { phase = phase.Reporting })) }
+        ensures refused { OnErr result (self.new ≡ self.old) }
     {
-        self.at.logged_front()
+        let logged = self.at.logged_front()?;
+        self.phase = Phase::Reporting;
+        Ok(logged)
     }
 
     /// Takes what says that the batch is reported: the answers to its clients are ready, each by what became of its
@@ -398,6 +412,7 @@ impl<B: ClusterName, W: Drop> CommitMachine<B, W> {
             (why ≡ NoMemory) ⊎ (report_fault self.old.front self.old.proxy reported.now ≡ Some why)) }
         ensures waiting { self.new.waiting ≡ self.old.waiting }
         ensures entered { OnErr result (self.new.entered ≡ self.old.entered) }
+        ensures kept { OnErr result (self.new ≡ record self.old { proxy = self.new.proxy }) }
     {
         self.replies = self.at.reported(self.alloc, reported)?;
         self.entered = 0;

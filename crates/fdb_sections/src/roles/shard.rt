@@ -18,6 +18,7 @@ use fdb_txn::check_turn;
 use std::alloc::Global;
 use std::marker::Model;
 
+pub(crate) mod gathering;
 pub(crate) mod lent_shards;
 pub(crate) mod reader;
 pub(crate) mod view;
@@ -75,7 +76,7 @@ impl<B: ClusterName> ShardAt<B> {
     /// Refused as a read of what the shard holds is at the version: as `Failed` once memory ran out in `apply`, as
     /// `TransactionTooOld` where the version is below the floor, and as `FutureVersion` where it is above the shard's.
     /// It takes no memory, and O(1) time.
-    pub(crate) fn check_version(&self, version: u64) -> Result<(), Refusal>
+    pub fn check_version(&self, version: u64) -> Result<(), Refusal>
         ensures { AnswersExactly result (read_fault self.now.shard true version) (λ _. ⊤) }
     {
         if self.shard.is_failed() {

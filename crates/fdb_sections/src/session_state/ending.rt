@@ -4,7 +4,8 @@ ghost use Rattle.fdb_keys.specs.declared.refusal.Refusal.TheVariants.{BookFull, 
 ghost use Rattle.fdb_book.specs.Fronts.{IsPrefix};
 ghost use Rattle.fdb_roles.specs.Spots.{spot_version};
 ghost use Rattle.fdb_client.specs.Programs.{is_read_only};
-ghost use Rattle.fdb_sections.specs.Commits.{CommitEnds, is_handed_back, is_shown};
+ghost use Rattle.fdb_sections.specs.Commits.{CommitEnds, IsByFull, IsByOutcome, IsToldSo};
+ghost use Rattle.fdb_sections.specs.Commits.{is_handed_back, is_shown, plain_reason};
 ghost use Rattle.fdb_sections.specs.Sessions.{IsOpenAt};
 
 use crate::known_front::KnownFront;
@@ -20,6 +21,7 @@ use fdb_keys::{Refusal, Refused};
 // What a session is told that is refused with no front to show why. A reason that a front would show, that memory ran
 // out on the way, and what no commit is refused for leave open what became of the transaction.
 fn plain_reason(why: Refusal) -> Refusal
+    ensures reason { result ≡ plain_reason why }
     ensures plain { is_shown result ≡ false }
     ensures listed { is_handed_back result ≡ true }
 {
@@ -49,6 +51,7 @@ impl<B: ClusterName> SessionState<B> {
     // Sees the front of a book that is full, and says why the transaction has no receipt.
     fn see_full(&mut self, book: u32, front: &KnownFront<B>) -> Refusal
         requires { book ≡ B.config.book }
+        ensures told { IsByFull B.config self.old front.now result self.new }
         ensures why { (result ≡ BookFull) ⊎ (result ≡ CommitUnknownResult) }
         ensures listed { is_handed_back result ≡ true }
         ensures full { result ≡ BookFull → length self.new.front ≡ B.config.book }
@@ -71,7 +74,8 @@ impl<B: ClusterName> SessionState<B> {
         requires opened { IsOpenAt B.config.resolver_splits self.old.number self.old.next_number self.old.front
             submitted.transcript }
         requires none { self.old.current ≡ None }
-        ensures { CommitEnds B.config self.old submitted.transcript result self.new }
+        ensures ends { CommitEnds B.config self.old submitted.transcript result self.new }
+        ensures told { IsByOutcome self.old message.now submitted.transcript result self.new }
     {
         match self.settle(submitted, message) {
             Ok(receipt) => Ok(receipt),
@@ -94,7 +98,8 @@ impl<B: ClusterName> SessionState<B> {
         requires opened { IsOpenAt B.config.resolver_splits self.old.number self.old.next_number self.old.front
             submitted.transcript }
         requires none { self.old.current ≡ None }
-        ensures { CommitEnds B.config self.old submitted.transcript result self.new }
+        ensures ends { CommitEnds B.config self.old submitted.transcript result self.new }
+        ensures told { IsToldSo B.config self.old submitted.transcript told result self.new }
     {
         match told {
             CommitReply::Outcome(message) => self.settle_or_back(submitted, &message),

@@ -72,6 +72,18 @@ module _ (workloads : ValueParser) where
   unfolding clap_on_literals
   too_many_clients = refl
 
+  simulate_is_asked_for : named (codes "simulate" ∷ codes "--seed" ∷ codes "9" ∷ []) ≡ Some (codes "simulate")
+  unfolding clap_on_literals
+  simulate_is_asked_for = refl
+
+  clients_are_given : text_of (codes "clients") (codes "simulate" ∷ codes "--steps=7" ∷ []) ≡ Some (codes "8")
+  unfolding clap_on_literals
+  clients_are_given = refl
+
+  too_many_proxies : faults (codes "simulate" ∷ codes "--proxies" ∷ codes "17" ∷ []) ≡ ValueValidation ∷ []
+  unfolding clap_on_literals
+  too_many_proxies = refl
+
   no_words_are_none : faults [] ≡ MissingSubcommand ∷ []
   unfolding clap_on_literals
   no_words_are_none = refl

@@ -7,10 +7,12 @@ use Rattle.fdb_play.specs.Random.{RunPrints}
 use Rattle.fdb_play.specs.play.Scripts.{Knows, Plays, Printed}
 use Rattle.fdb_load.specs.declared.load.Load.{Load}
 use Rattle.fdb_load.specs.Reports.{PrintsEnd}
+use Rattle.fdb_simulate.specs.declared.simulation.Simulation.{Simulation}
+use Rattle.fdb_simulate.specs.Reports.{SimulationPrints}
 use Rattle.fdb_sim.specs.Commands.{EndsBy, LackMemory, Obeys}
 use Rattle.fdb_sim.specs.command.Tasks.{Asks}
 use Rattle.fdb_sim.specs.declared.command.task.Schedule.{Schedule}
-use Rattle.fdb_sim.specs.declared.command.task.Task.TheVariants.{Random, Run, Threads}
+use Rattle.fdb_sim.specs.declared.command.task.Task.TheVariants.{Random, Run, Simulate, Threads}
 
 module _ (words : List Text) (input old new err_old err_new : Option (List ℕ)) (status : ℕ) where
   pub plays : Asks words (Ok Run) → Printed old new (λ printed. Knows input (λ lines. Plays 0 lines printed status))
@@ -32,10 +34,17 @@ module _ (words : List Text) (input old new err_old err_new : Option (List ℕ))
   runs load (inr (workloads, named, (faults, asked))) printed =
       inl (workloads, named, inr (inr (inl (faults, load, asked, printed))))
 
+  pub simulates : (asked : Simulation) → Asks words (Ok (Simulate asked))
+      → Printed old new (λ printed. SimulationPrints asked printed status)
+      → Obeys words input old new err_old err_new status
+  simulates asked (inl none) printed = absurd none
+  simulates asked (inr (workloads, named, (faults, is))) printed =
+      inl (workloads, named, inr (inr (inr (inl (faults, asked, is, printed)))))
+
   pub ends : (fault : Error) → Asks words (Err fault) → EndsBy (kind_of fault) old new status
       → (kind_of fault ≡ OutOfMemory → LackMemory old new err_old err_new status)
       → Obeys words input old new err_old err_new status
   ends fault (inl none) ended lacks = inr (lacks none)
   ends fault (inr (workloads, named, (inl none, given))) ended lacks = inr (lacks none)
   ends fault (inr (workloads, named, (inr among, given))) ended lacks =
-      inl (workloads, named, inr (inr (inr (kind_of fault, among, ended))))
+      inl (workloads, named, inr (inr (inr (inr (kind_of fault, among, ended)))))

@@ -11,9 +11,10 @@ use Rattle.clap.specs.declared.error.kind.ErrorKind.TheVariants.{OutOfMemory}
 use Rattle.fdb_load.specs.declared.load.Load.{Load}
 use Rattle.fdb_load.specs.declared.workload.Workload.{Workload}
 use Rattle.fdb_load.specs.declared.workload.Workload.TheVariants.{Counters, Ring, Transfers}
+use Rattle.fdb_simulate.specs.declared.simulation.Simulation.{Simulation}
 use Rattle.fdb_sim.specs.command.Options.{IsWorkloadParser, commands}
 use Rattle.fdb_sim.specs.declared.command.task.Task.{Task}
-use Rattle.fdb_sim.specs.declared.command.task.Task.TheVariants.{Random, Run, Threads}
+use Rattle.fdb_sim.specs.declared.command.task.Task.TheVariants.{Random, Run, Simulate, Threads}
 use Rattle.fdb_sim.specs.declared.command.task.Schedule.{Schedule}
 
 -- n is the number of so many bits that the option has, where that is one
@@ -47,12 +48,22 @@ pub record HasLoad (rows : List Row) (load : Load) : Type 0 where
   pub workload : load.workload ≡ option_map_or workload_called (first_of (codes "workload") rows) Ring
   pub progress : ReadsFlag (codes "progress") rows load.progress
 
--- the command that was found, with its options, asks for this; any other than the two that are named is `run`
+pub record HasSimulation (rows : List Row) (asked : Simulation) : Type 0 where
+  pub seed : ReadsBits 64 (codes "seed") rows asked.seed
+  pub steps : ReadsNumber (codes "steps") rows asked.steps
+  pub clients : ReadsNumber (codes "clients") rows asked.clients
+  pub resolvers : ReadsNumber (codes "resolvers") rows asked.resolvers
+  pub proxies : ReadsNumber (codes "proxies") rows asked.proxies
+
+-- the command that was found, with its options, asks for this; any other than the three that are named is `run`
 abbrev pub IsAsked : Option (Text × List Row) → Task → Type 0
-IsAsked found Run = (rows : List Row) → (found ≢ Some (codes "random", rows)) × (found ≢ Some (codes "threads", rows))
+IsAsked found Run = (rows : List Row) → (found ≢ Some (codes "random", rows))
+    × (found ≢ Some (codes "threads", rows)) × (found ≢ Some (codes "simulate", rows))
 IsAsked found (Random schedule) =
     (rows : List Row) × (found ≡ Some (codes "random", rows)) × HasSchedule rows schedule
 IsAsked found (Threads load) = (rows : List Row) × (found ≡ Some (codes "threads", rows)) × HasLoad rows load
+IsAsked found (Simulate asked) =
+    (rows : List Row) × (found ≡ Some (codes "simulate", rows)) × HasSimulation rows asked
 
 -- the words fail by a fault that clap finds in them, or else ask for the task
 abbrev pub AsksBy : App → List Text → Result Task Error → Type 0

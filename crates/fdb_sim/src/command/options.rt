@@ -2,7 +2,8 @@
 ghost use Rattle.std.specs.Prelude.{◌≡◌, IfOk, IfErr, codes, true, false};
 ghost use Rattle.clap.specs.Words.{app_of, kind_of, rule_of, with_rule, with_subcommand};
 ghost use Rattle.fdb_sim.specs.command.Options.{AreCommands, IsWorkloadParser, flag, option};
-ghost use Rattle.fdb_sim.specs.command.Options.{random_command, run_command, threads_command, with_sizes};
+ghost use Rattle.fdb_sim.specs.command.Options.{random_command, run_command, simulate_command, threads_command};
+ghost use Rattle.fdb_sim.specs.command.Options.{with_roles, with_schedule, with_sizes};
 
 use clap::builder::ValueParser;
 use clap::error::ErrorKind;
@@ -37,6 +38,26 @@ The line's keys:
   unknown       transactions of which it isn't known whether they committed
   workload      which one ran";
 
+const SIMULATE_HELP: &str = "A failing role, the end in the middle and a short book are drawn, too.
+
+The line's keys:
+  aborted       transactions that were in conflict or too old
+  acknowledged  transactions that were committed
+  checked       transcripts that were compared with a run of one transaction at a time
+  early         read versions below what was acknowledged before they were asked for
+  entries       batches in the book
+  found         transactions in the book that were refused as having no effect
+  mode          simulate
+  ok            whether nothing was early, found or unexplained, nobody waits, all that was acknowledged was compared,
+                and there is a record
+  recorded      whether the shards gave a record, or one of them failed
+  refused       transactions that were refused otherwise
+  seed          the seed
+  steps         the acts that were drawn
+  unexplained   answers that nothing that was drawn explains
+  unknown       transactions of which it isn't known whether they committed
+  waiting       clients that wait though nothing is on its way";
+
 /// The program's commands.
 pub(super) fn commands<'a>(alloc: Global) -> Result<Command<'a>, Error>
     ensures ok { IfOk result (λ command. AreCommands (app_of command)) }
@@ -48,7 +69,8 @@ pub(super) fn commands<'a>(alloc: Global) -> Result<Command<'a>, Error>
         .subcommand_required(true);
     let command = with_command(command, run_command(alloc))?;
     let command = with_command(command, random_command(alloc)?)?;
-    with_command(command, threads_command(alloc)?)
+    let command = with_command(command, threads_command(alloc)?)?;
+    with_command(command, simulate_command(alloc)?)
 }
 
 fn run_command<'a>(alloc: Global) -> Command<'a>
@@ -64,6 +86,15 @@ fn random_command<'a>(alloc: Global) -> Result<Command<'a>, Error>
     let command = Command::new(alloc, "random")
         .about("Runs steps that are drawn from a seed, and prints a line of JSON")
         .after_help(RANDOM_HELP);
+    let command = with_schedule(alloc, command)?;
+    with_argument(command, progress(alloc))
+}
+
+// Which steps are drawn, and how many.
+fn with_schedule<'a>(alloc: Global, command: Command<'a>) -> Result<Command<'a>, Error>
+    ensures ok { IfOk result (λ r. app_of r ≡ with_schedule (app_of command.entry)) }
+    ensures err { IfErr result (λ fault. kind_of fault ≡ ErrorKind.OutOfMemory) }
+{
     let seed = option(alloc, "seed", "1", value_parser!(u64)).help("Which steps are drawn");
     let command = with_argument(command, seed)?;
     let steps = option(
@@ -73,8 +104,7 @@ fn random_command<'a>(alloc: Global) -> Result<Command<'a>, Error>
         value_parser!(u32).range(1..=1_000_000),
     )
     .help("How many steps are drawn");
-    let command = with_argument(command, steps)?;
-    with_argument(command, progress(alloc))
+    with_argument(command, steps)
 }
 
 fn threads_command<'a>(alloc: Global) -> Result<Command<'a>, Error>
@@ -106,6 +136,31 @@ fn with_sizes<'a>(alloc: Global, command: Command<'a>) -> Result<Command<'a>, Er
         "How many transactions each client tries",
     );
     let command = with_argument(command, txns)?;
+    with_roles(alloc, command)
+}
+
+fn simulate_command<'a>(alloc: Global) -> Result<Command<'a>, Error>
+    ensures ok { IfOk result (λ command. app_of command ≡ simulate_command) }
+    ensures err { IfErr result (λ fault. kind_of fault ≡ ErrorKind.OutOfMemory) }
+{
+    let command = Command::new(alloc, "simulate")
+        .about(
+            "Runs clients and roles in one thread by a seed, checks them, and prints a line of JSON",
+        )
+        .after_help(SIMULATE_HELP);
+    let command = with_schedule(alloc, command)?;
+    let clients = option(alloc, "clients", "8", value_parser!(u32).range(1..=64)).help(
+        "How many clients there are",
+    );
+    let command = with_argument(command, clients)?;
+    with_roles(alloc, command)
+}
+
+// How many resolvers and proxies there are.
+fn with_roles<'a>(alloc: Global, command: Command<'a>) -> Result<Command<'a>, Error>
+    ensures ok { IfOk result (λ r. app_of r ≡ with_roles (app_of command.entry)) }
+    ensures err { IfErr result (λ fault. kind_of fault ≡ ErrorKind.OutOfMemory) }
+{
     let resolvers = option(alloc, "resolvers", "2", value_parser!(u32).range(1..=64)).help(
         "How many resolvers there are",
     );

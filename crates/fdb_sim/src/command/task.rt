@@ -3,11 +3,13 @@ ghost use Rattle.std.specs.Prelude.{◌≡◌, codes, map};
 ghost use Rattle.std.specs.Option.{option_map_or};
 ghost use Rattle.clap.specs.Words.{first_value, found_of, rows_of, subcommand_rows_of};
 ghost use Rattle.fdb_load.specs.declared.workload.Workload.TheVariants.{Ring};
-ghost use Rattle.fdb_sim.specs.command.Tasks.{Asks, HasLoad, HasSchedule, IsAsked, ReadsNumber, workload_called};
+ghost use Rattle.fdb_sim.specs.command.Tasks.{Asks, HasLoad, HasSchedule, HasSimulation, IsAsked, ReadsNumber};
+ghost use Rattle.fdb_sim.specs.command.Tasks.{workload_called};
 
 use super::options::commands;
 use clap::{ArgMatches, Error};
 use fdb_load::{Load, Workload};
+use fdb_simulate::Simulation;
 use std::alloc::Global;
 
 /// Which steps are drawn.
@@ -29,6 +31,8 @@ pub(crate) enum Task {
     Random(Schedule),
     /// To run clients in threads.
     Threads(Load),
+    /// To run clients in one thread, by an order that is drawn.
+    Simulate(Simulation),
 }
 
 /// Reads the words.
@@ -47,6 +51,7 @@ fn task_of(matches: &ArgMatches<'_>) -> Task
     match matches.subcommand() {
         Some(("random", below)) => Task::Random(schedule_of(below)),
         Some(("threads", below)) => Task::Threads(load_of(below)),
+        Some(("simulate", below)) => Task::Simulate(simulation_of(below)),
         _ => Task::Run,
     }
 }
@@ -71,6 +76,18 @@ fn load_of(matches: &ArgMatches<'_>) -> Load
         proxies: number_of(matches, "proxies"),
         workload: workload_of(matches),
         progress: matches.get_flag("progress"),
+    }
+}
+
+fn simulation_of(matches: &ArgMatches<'_>) -> Simulation
+    ensures { HasSimulation (rows_of (found_of matches.now)) result }
+{
+    Simulation {
+        seed: matches.get_one::<u64>("seed").unwrap_or(1),
+        steps: number_of(matches, "steps"),
+        clients: number_of(matches, "clients"),
+        resolvers: number_of(matches, "resolvers"),
+        proxies: number_of(matches, "proxies"),
     }
 }
 

@@ -13,14 +13,14 @@ fn same<T: PartialEq + Debug + Drop>(rt: &impl Abort, given: T, wanted: T) {
     assert_eq!(rt; given, wanted);
 }
 
-// Three proxies of each kind and two of each other role, among which the four keys are divided.
-fn config_of(alloc: Global, book: u32) -> Result<Config, Refusal> {
+// So many proxies of each kind and two of each other role, among which the four keys are divided.
+fn config_of(alloc: Global, proxies: u32, book: u32) -> Result<Config, Refusal> {
     let mut resolver_splits = Items::new(alloc);
     resolver_splits.push(Key::new(alloc, &[b'k', 2])?)?;
     let mut shard_splits = Items::new(alloc);
     shard_splits.push(Key::new(alloc, &[b'k', 1])?)?;
     Ok(Config {
-        proxies: 3,
+        proxies,
         logs: 2,
         resolver_splits,
         shard_splits,
@@ -28,14 +28,15 @@ fn config_of(alloc: Global, book: u32) -> Result<Config, Refusal> {
     })
 }
 
-// Eight clients of four keys. With every second seed a commit proxy fails on the way, and with every third one the
-// database is closed.
+// Eight clients of four keys. With every second seed a role fails on the way, with every third one the database is
+// closed, and with every fourth one versions are so far apart that five of them lie in the window.
 fn plan_of(seed: u64) -> Plan {
     Plan {
         seed,
         steps: 2_000,
         clients: 8,
         keys: 4,
+        advance: if seed % 4 == 3 { 1_000_000 } else { 1_000 },
         fails_at: if seed % 2 == 1 {
             Some(seed.saturating_mul(9))
         } else {
@@ -49,30 +50,30 @@ fn plan_of(seed: u64) -> Plan {
     }
 }
 
+// A play over three proxies of each kind.
 fn play(alloc: Global, plan: &Plan, book: u32) -> Result<Tally, Refusal> {
-    let config = config_of(alloc, book)?;
+    play_over(alloc, plan, 3, book)
+}
+
+fn play_over(alloc: Global, plan: &Plan, proxies: u32, book: u32) -> Result<Tally, Refusal> {
+    let config = config_of(alloc, proxies, book)?;
     let blank = Blank::new(alloc, book)?;
     simulate::<Brand>(alloc, blank, &config, plan)
 }
 
-// Whether nobody waits in the end, and all that the clients were told agrees with the record. Where no proxy failed and
-// the database wasn't closed, something was acknowledged, and nothing was refused but for what another one wrote.
+// Whether nobody waits in the end, and all that the clients were told agrees with the book and is explained. Where no
+// role failed and the database wasn't closed, something was acknowledged.
 fn is_right(alloc: Global, seed: u64) -> bool {
     let plan = plan_of(seed);
     match play(alloc, &plan, 4_096) {
-        Ok(tally) => tally.is_right() && (is_disturbed(&plan) || is_undisturbed(&tally)),
+        Ok(tally) => tally.is_right() && (is_disturbed(&plan) || tally.acknowledged > 0),
         Err(_why) => false,
     }
 }
 
-// Whether a proxy fails on the way, or the database is closed.
+// Whether a role fails on the way, or the database is closed.
 fn is_disturbed(plan: &Plan) -> bool {
     plan.fails_at.is_some() || plan.closes_at.is_some()
-}
-
-// Whether something was acknowledged, and nothing was refused but for what another transaction wrote.
-fn is_undisturbed(tally: &Tally) -> bool {
-    tally.acknowledged > 0 && tally.unknown == 0 && tally.refused == 0
 }
 
 #[test]
@@ -80,6 +81,28 @@ fn two_hundred_seeds_are_played_to_their_end(rt: HostRuntime) -> Result<(), Fail
     let alloc = rt.alloc();
     let right = (0..200).filter(|seed| is_right(alloc, *seed)).count();
     same(&rt, right, 200);
+    Ok(())
+}
+
+// Many proxies have many messages on their way, most of which wait for those of others.
+fn is_right_of_many(alloc: Global, seed: u64) -> bool {
+    let plan = Plan {
+        clients: 64,
+        ..plan_of(seed)
+    };
+    match play_over(alloc, &plan, 16, 4_096) {
+        Ok(tally) => tally.is_right(),
+        Err(_why) => false,
+    }
+}
+
+#[test]
+fn many_proxies_are_played_to_their_end(rt: HostRuntime) -> Result<(), Fail> {
+    let alloc = rt.alloc();
+    let right = (0..20)
+        .filter(|seed| is_right_of_many(alloc, *seed))
+        .count();
+    same(&rt, right, 20);
     Ok(())
 }
 
@@ -115,5 +138,49 @@ fn a_book_is_filled(rt: HostRuntime) -> Result<(), Fail> {
         Err(_why) => (false, 0, false),
     };
     same(&rt, told, (true, 6, true));
+    Ok(())
+}
+
+// How many transactions of plays that are right were turned down, how many reads came too late, and of how many
+// transactions nothing is known.
+fn sum_of(alloc: Global, plans: [Plan; 4]) -> [u64; 3] {
+    let mut sum: [u64; 3] = [0; 3];
+    for plan in plans {
+        if let Ok(tally) = play(alloc, &plan, 4_096)
+            && tally.is_right()
+        {
+            sum[0] = sum[0].saturating_add(tally.turned_down);
+            sum[1] = sum[1].saturating_add(tally.forgotten);
+            sum[2] = sum[2].saturating_add(tally.unknown);
+        }
+    }
+    sum
+}
+
+// Many clients; nothing fails, and two versions lie in the window.
+fn far_apart(seed: u64) -> Plan {
+    Plan {
+        seed,
+        steps: 10_000,
+        clients: 48,
+        keys: 4,
+        advance: 2_500_000,
+        fails_at: None,
+        closes_at: None,
+    }
+}
+
+#[test]
+fn what_is_refused_comes_of_conflicts_age_and_failures(rt: HostRuntime) -> Result<(), Fail> {
+    let alloc = rt.alloc();
+    let far = [6, 12, 18, 24].map(far_apart);
+    let failing = [1, 5, 13, 17].map(plan_of);
+    let [turned_down, forgotten, _unknown] = sum_of(alloc, far);
+    let [_turned_down, _forgotten, unknown] = sum_of(alloc, failing);
+    same(
+        &rt,
+        (turned_down > 0, forgotten > 0, unknown > 0),
+        (true, true, true),
+    );
     Ok(())
 }

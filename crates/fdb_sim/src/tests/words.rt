@@ -63,6 +63,9 @@ const BAD_WORDS: &[&[&str]] = &[
     &["threads", "--resolvers", "65"],
     &["threads", "--proxies", "17"],
     &["threads", "--workload", "walk"],
+    &["simulate", "--steps", "0"],
+    &["simulate", "--clients", "65"],
+    &["simulate", "--txns", "1"],
     &["--version", "run"],
 ];
 
@@ -92,6 +95,8 @@ const HELP: &[(&str, &[u8])] = &[
     ("random", b"--seed"),
     ("threads", b"32 accounts with 1,000 each"),
     ("threads", b"--workload"),
+    ("simulate", b"unexplained"),
+    ("simulate", b"--resolvers"),
 ];
 
 #[test]
@@ -121,6 +126,14 @@ const DRAWN: &[(&[&str], &[u8])] = &[
             "counters",
         ],
         b"\"ok\":true,\"unknown\":0,\"workload\":\"counters\"}\n",
+    ),
+    (
+        &["simulate", "--seed", "3", "--steps", "500"],
+        b"\"mode\":\"simulate\",\"ok\":true,",
+    ),
+    (
+        &["simulate", "--seed=4", "--steps=1"],
+        b",\"seed\":4,\"steps\":1,\"unexplained\":0,\"unknown\":0,\"waiting\":0}\n",
     ),
 ];
 

@@ -1,5 +1,5 @@
 // Who reads at a version that its front reaches, of shards that are lent to it.
-ghost use Rattle.std.specs.Prelude.{◌≡◌, ◌≤◌, ◌++◌, None, IsTrue, true};
+ghost use Rattle.std.specs.Prelude.{◌≡◌, ◌≤◌, ◌++◌, None, IsTrue, true, OnErr};
 ghost use Rattle.std.specs.FinMap.{get};
 ghost use Rattle.fdb_keys.specs.Answers.{Answers};
 ghost use Rattle.fdb_mutations.specs.Pairs.{first_of};
@@ -18,9 +18,9 @@ use fdb_client::{Page, Snapshot};
 use fdb_keys::{Key, KeyRange, Refusal};
 use std::alloc::Global;
 
-// How many pairs are still wanted of so many, of which there are some already: 0 where all are wanted, and none where
-// that many are there.
-fn left_of(wanted: u32, count: usize) -> Option<u32>
+/// How many pairs are still wanted of so many, of which there are some already: 0 where all are wanted, and none where
+/// that many are there.
+pub(crate) fn left_of(wanted: u32, count: usize) -> Option<u32>
     ensures { result ≡ left_of wanted count }
 {
     if wanted == 0 {
@@ -61,6 +61,11 @@ impl<'a, B: ClusterName> Reader<'a, B> {
         ensures { result ≡ self.now.version }
     {
         self.version
+    }
+
+    /// The allocator that it reads with.
+    pub(crate) fn alloc(&self) -> Global {
+        self.alloc
     }
 
     /// The reader's front. It takes no memory, and O(1) time.
@@ -142,8 +147,8 @@ impl<'a, B: ClusterName> Reader<'a, B> {
         self.add_pairs(pairs, others, range, wanted, reverse)
     }
 
-    // The same of one shard, which is asked only where more are wanted.
-    fn add_pairs_of(
+    /// The same of one shard, which is asked only where more are wanted. A refusal leaves the pairs as they were.
+    pub(crate) fn add_pairs_of(
         &self,
         pairs: &mut Vec<(Key, Bytes)>,
         at: &ShardAt<B>,
@@ -153,8 +158,9 @@ impl<'a, B: ClusterName> Reader<'a, B> {
     ) -> Result<(), Refusal>
         requires few { AreFew wanted pairs.old.items }
         requires served { read_fault at.now.shard true self.now.version ≡ None }
-        ensures { Answers result None (λ _. pairs.new.items ≡ first_of wanted (pairs.old.items
+        ensures answers { Answers result None (λ _. pairs.new.items ≡ first_of wanted (pairs.old.items
             ++ pairs_at (run_of B.config self.now.version self.now.front.now) range.now reverse at.now)) }
+        ensures refused { OnErr result (pairs.new.items ≡ pairs.old.items) }
     {
         if let Some(limit) = left_of(wanted, pairs.len()) {
             pairs.append(&mut self.pairs_of(at, range, limit, reverse)?)?;

@@ -3,7 +3,7 @@ use Rattle.std.specs.Prelude.{IfOk}
 use Rattle.std.proofs.lemmas.Result.{IfOk-weaker}
 use Rattle.fdb_sim.specs.command.Tasks.{Asks}
 use Rattle.fdb_sim.specs.declared.command.task.Task.{Task}
-use Rattle.fdb_sim.proofs.lemmas.Obeying.{draws, ends, plays, runs}
+use Rattle.fdb_sim.proofs.lemmas.Obeying.{draws, ends, plays, runs, simulates}
 use Rattle.fdb_sim.proofs.command.run_words.Goals as goal
 
 -- what follows from two things that hold of an answer holds of it
@@ -42,6 +42,17 @@ returns-in-Ok-Threads-clause-obeys g c =
     (g.O.Sink.contents c.run_threads.new.out) (g.E.Sink.contents c.args.err.now)
     (g.E.Sink.contents c.run_threads.new.err) status given.load asked (ended.0, ended.2, ended.1))
     c.run_threads.ensures.printed
+
+pub returns-in-Ok-Simulate-clause-obeys : goal.returns-in-Ok-Simulate-clause-obeys
+returns-in-Ok-Simulate-clause-obeys g c =
+    let given = c.in-Ok-Simulate in
+    let asked = subst (λ (task : Task). Asks (map (λ word. word.now) c.args.words.now) (Ok task)) given.field-0-is
+    given.ensures in
+    IfOk-weaker c.run_simulation.result _ _ (λ status ended. simulates (map (λ word. word.now) c.args.words.now)
+    (g.I.Source.remaining c.args.reader.now) (g.O.Sink.contents c.args.out.now)
+    (g.O.Sink.contents c.run_simulation.new.out) (g.E.Sink.contents c.args.err.now)
+    (g.E.Sink.contents c.args.err.now) status given.asked asked (ended.0, ended.2, ended.1))
+    c.run_simulation.ensures.printed
 
 pub returns-in-Err-clause-obeys : goal.returns-in-Err-clause-obeys
 returns-in-Err-clause-obeys g c =

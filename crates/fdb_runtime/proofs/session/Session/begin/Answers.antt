@@ -11,6 +11,7 @@ given-so (Err why) P holds = tt
 
 pub returns-clause-begins : goal.returns-clause-begins
 returns-clause-begins g c =
-    subst (λ (old : Session). IfOk c.begin.result (λ (version : ℕ). IsPrefix old.front c.begin.new.self.front))
+    subst (λ (old : Session). IfOk c.begin.result (λ (version : ℕ). IsPrefix old.front c.begin.new.self.session.front))
     c.self.view_is
-    (given-so c.begin.result (IsPrefix c.self.inside.state.front c.begin.new.self.front) c.begin.ensures.begins)
+    (given-so c.begin.result (IsPrefix c.self.inside.client.session.front c.begin.new.self.session.front)
+    c.begin.ensures.begins)

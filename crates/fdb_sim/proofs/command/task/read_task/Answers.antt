@@ -1,6 +1,6 @@
-use Rattle.std.proofs.Common.{refl, subst, sym, true, ap, inl, inr, map, List, Result, ◌≡◌, ◌∙◌}
+use Rattle.std.proofs.Common.{refl, subst, sym, true, ap, inl, inr, map, ◌≡◌, ◌∙◌}
 use Rattle.std.proofs.lemmas.Result.{err_from_is_err_and}
-use Rattle.clap.specs.Words.{HasKind, fault_of, is_simple, is_simple_and_free, subcommand_of, subcommand_rows_of}
+use Rattle.clap.specs.Words.{HasKind, fault_of, is_simple, is_simple_and_free, subcommand_of}
 use Rattle.clap.specs.declared.builder.value_parser.ValueParser.{ValueParser}
 use Rattle.clap.proofs.OnLiterals.{clap_on_literals}
 use Rattle.fdb_sim.specs.command.Options.{commands}

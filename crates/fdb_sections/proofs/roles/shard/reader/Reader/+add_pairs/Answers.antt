@@ -42,7 +42,7 @@ returns-then-reverse g t c =
     added-again c.args.wanted pairs (pairs_held run range reverse others) (pairs_at run range reverse at)
     c.add_pairs.new.pairs.items c.add_pairs_of.new.pairs.items c.in_ok-add_pairs.ensures added
     ∙ ap (λ (more : List (Point × List ℕ)). first_of c.args.wanted (pairs ++ more)) (sym held))
-    c.add_pairs_of.ensures
+    c.add_pairs_of.ensures.answers
 
 pub returns : goal.returns
 returns g t c =
@@ -60,6 +60,6 @@ returns g t c =
     answers-by c.add_pairs-2.result None None _ _ refl
     (λ _ done added.
     added-again c.args.wanted pairs (pairs_at run range reverse at) (pairs_held run range reverse others)
-    c.add_pairs_of-2.new.pairs.items c.add_pairs-2.new.pairs.items c.in_ok-add_pairs_of.ensures added
+    c.add_pairs_of-2.new.pairs.items c.add_pairs-2.new.pairs.items c.in_ok-add_pairs_of.ensures.answers added
     ∙ ap (λ (more : List (Point × List ℕ)). first_of c.args.wanted (pairs ++ more)) (sym held))
     c.add_pairs-2.ensures

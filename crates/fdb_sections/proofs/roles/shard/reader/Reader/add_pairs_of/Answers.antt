@@ -6,8 +6,8 @@ use Rattle.fdb_sections.specs.LentShards.{pairs_at}
 use Rattle.fdb_sections.specs.ShardViews.{run_of}
 use Rattle.fdb_sections.proofs.roles.shard.reader.Reader.add_pairs_of.Goals as goal
 
-pub returns-in_ok-append : goal.returns-in_ok-append
-returns-in_ok-append g c =
+pub returns-in_ok-append-clause-answers : goal.returns-in_ok-append-clause-answers
+returns-in_ok-append-clause-answers g c =
     let pairs = c.args.pairs.now.items in
     let reader = c.args.self.now in
     let count : c.len.result ≡ length pairs = search rules in

@@ -1,4 +1,4 @@
-use Rattle.fdb_sim.proofs.tests.simulating.play.Given as goal
+use Rattle.fdb_simulate.proofs.simulation.run.Given as goal
 
 abbrev pub ghosts-simulate-B-BookName : goal.ghosts-simulate-B-BookName
 ghosts-simulate-B-BookName a = record { cells = a.blank }

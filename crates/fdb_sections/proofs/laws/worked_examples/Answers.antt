@@ -1,0 +1,126 @@
+use Rattle.std.proofs.Common.{◌≡◌, ◌∙◌, sym, ap, subst, refl, arith, inl, inr, ⊎_elim, ℕ, zero, suc, List, [], ◌∷◌}
+use Rattle.std.proofs.Common.{Option, Some, None, length}
+use Rattle.std.specs.Prelude.{◌⊎◌, true, false, if◌then◌else◌}
+use Rattle.fdb_keys.specs.declared.refusal.Refusal.TheVariants as refusal
+use Rattle.fdb_keys.specs.Points.{point_lt}
+use Rattle.fdb_keys.specs.Insertion as insertion
+use Rattle.fdb_txn.specs.book.Transactions.{Transaction}
+use Rattle.fdb_txn.specs.book.Book.{Place, placed}
+use Rattle.fdb_txn.specs.book.Places.{place_at}
+use Rattle.fdb_txn.specs.rules.Admission.{committed, is_fresh}
+use Rattle.fdb_client.specs.Programs.{commit_request_of}
+use Rattle.fdb_client.specs.declared.program.Transcript.{Transcript}
+use Rattle.fdb_roles.specs.SmallBooks.{reads_and_sets, two_in_one_entry}
+use Rattle.fdb_sections.specs.Examples.{far, opened}
+use Rattle.fdb_sections.specs.Sessions.{Session}
+use Rattle.fdb_sections.proofs.laws.worked_examples.Goals as goal
+
+pub returns-clause-sessions : goal.returns-clause-sessions
+returns-clause-sessions c = (
+  refl,
+  refl,
+  (λ same. let wrong : Some (opened 200) ≡ Some (opened 100) = ap (λ (it : Session). it.current) same in
+      let versions : 200 ≡ 100 = ap version_of wrong in
+      omega (arith, versions)),
+  refl,
+  refl,
+  refl,
+  refl,
+  refl,
+)
+  where
+    version_of : Option Transcript → ℕ
+    version_of None = 0
+    version_of (Some transcript) = transcript.read_version
+
+-- the two places of the entry, and the place of the far one
+abbrev first : Place
+first = placed 100 [] (commit_request_of (reads_and_sets 0 None))
+
+abbrev second : Place
+second = placed 100 [] (commit_request_of (reads_and_sets 1 None))
+
+abbrev late : Place
+late = placed 5000001 [] (commit_request_of (reads_and_sets 1 None))
+
+-- there are no other places
+of-two : (entry place : ℕ) (there : Place × List Place) → place_at two_in_one_entry entry place ≡ Some there
+    → ((first, []) ≡ there) ⊎ ((second, first ∷ []) ≡ there)
+of-two zero zero there is = inl (cc (is))
+of-two zero (suc zero) there is = inr (cc (is))
+of-two zero (suc (suc place)) there is = absurd cc
+of-two (suc entry) place there is = absurd cc
+
+of-far : (entry place : ℕ) (there : Place × List Place) → place_at far entry place ≡ Some there
+    → (late, []) ≡ there
+of-far zero zero there is = cc (is)
+of-far zero (suc place) there is = absurd cc
+of-far (suc entry) place there is = absurd cc
+
+-- the session of who stands there
+abbrev session_of : Place × List Place → ℕ
+session_of there = there.0.transaction.id.session
+
+pub returns-clause-turned_down : goal.returns-clause-turned_down
+unfolding point_lt insertion.inserted
+returns-clause-turned_down c = (
+  record {
+    entry = 0;
+    place = 1;
+    there = (second, first ∷ []);
+    there_is = refl;
+    asked = refl;
+    uncommitted = refl;
+    why_is = refl;
+  },
+  (λ down. ⊎_elim
+      (λ same. let wrong : 0 ≡ 1 =
+      ap session_of same ∙ ap (λ (t : Transaction). t.id.session) down.asked in omega (arith, wrong))
+      (λ same. let wrong : refusal.TransactionTooOld ≡ refusal.NotCommitted =
+      subst (λ (there : Place × List Place). refusal.TransactionTooOld
+      ≡ (if is_fresh there.0 then refusal.NotCommitted else refusal.TransactionTooOld)) (sym same) down.why_is in cc)
+      (of-two down.entry down.place down.there down.there_is)),
+  (λ down. ⊎_elim
+      (λ same. let wrong : true ≡ false =
+      subst (λ (there : Place × List Place). committed [] there.1 there.0 ≡ false) (sym same) down.uncommitted in cc)
+      (λ same. let wrong : 1 ≡ 0 =
+      ap session_of same ∙ ap (λ (t : Transaction). t.id.session) down.asked in omega (arith, wrong))
+      (of-two down.entry down.place down.there down.there_is)),
+  (λ down. nowhere down.entry down.place down.there down.there_is),
+  record {
+    entry = 0;
+    place = 0;
+    there = (late, []);
+    there_is = refl;
+    asked = refl;
+    uncommitted = refl;
+    why_is = refl;
+  },
+  (λ down. let wrong : refusal.NotCommitted ≡ refusal.TransactionTooOld =
+      subst (λ (there : Place × List Place). refusal.NotCommitted
+      ≡ (if is_fresh there.0 then refusal.NotCommitted else refusal.TransactionTooOld))
+      (sym (of-far down.entry down.place down.there down.there_is)) down.why_is in cc),
+)
+  where
+    nowhere : (entry place : ℕ) (there : Place × List Place) → place_at [] entry place ≡ Some there → ⊥
+    nowhere zero place there is = absurd cc
+    nowhere (suc entry) place there is = absurd cc
+
+pub returns-clause-reasons : goal.returns-clause-reasons
+returns-clause-reasons c = (refl, refl, refl, refl, refl, refl, refl, refl, refl, refl)
+
+pub returns-clause-full_books : goal.returns-clause-full_books
+returns-clause-full_books c = (
+  inl (refl, refl),
+  (λ told. ⊎_elim (λ seen. cc (seen.1)) (λ unknown. cc (unknown.1)) told),
+  (λ told. ⊎_elim
+      (λ seen. let wrong : 0 ≡ 1 = ap (λ (it : Session). length it.front) seen.0 in omega (arith, wrong))
+      (λ unknown. cc (unknown.1))
+      told),
+  (λ told. ⊎_elim (λ seen. cc (seen.1)) (λ unknown. cc (unknown.1)) told),
+  ((λ same. absurd cc), (λ same. absurd cc), (λ same. refl)),
+  (λ tells. let wrong : 1 ≡ 2 = tells.2 refl in omega (arith, wrong)),
+)
+
+pub returns-clause-endings : goal.returns-clause-endings
+returns-clause-endings c = (refl, refl, refl, refl, refl, refl, refl, refl)

@@ -1,0 +1,116 @@
+-- What sessions come to and are told, computed.
+use Rattle.std.specs.Prelude.{◌≡◌, ℕ, true, false, List, [], ◌∷◌, Some, None}
+use Rattle.fdb_keys.specs.declared.refusal.Refusal.TheVariants as refusal
+use Rattle.fdb_txn.specs.declared.entry.Entry.{Entry}
+use Rattle.fdb_txn.specs.declared.spot.Spot.TheVariants as spot
+use Rattle.fdb_proxy.specs.declared.config.Config.{Config}
+use Rattle.fdb_client.specs.Programs.{commit_request_of}
+use Rattle.fdb_client.specs.declared.program.Transcript.{Transcript}
+use Rattle.fdb_roles.specs.SmallBooks.{does_nothing, plain, reads_and_sets, set_and_cleared, two_in_one_entry}
+use Rattle.fdb_sections.specs.Commits.{IsByFull, Tells, plain_reason}
+use Rattle.fdb_sections.specs.Receipts.{GrantAtFront, IsTurnedDown, ReceiptAtFront}
+use Rattle.fdb_sections.specs.Sessions.{Session, begin_fault, beginning, learning}
+use Rattle.fdb_sections.specs.Waiting.{ended_by, reach_fault}
+
+-- session 3, which has seen nothing and began nothing
+abbrev pub fresh : Session
+fresh = record { number = 3; next_number = 0; front = []; mark = 0; current = None }
+
+-- the same once it has seen the entry at 100 and that at 200, in which its own transaction stands
+abbrev pub marked : Session
+marked = record fresh { front = set_and_cleared; mark = 200 }
+
+-- version 100, granted with the front that ends there
+abbrev pub granted : GrantAtFront
+granted = record { front = two_in_one_entry; committed = 100 }
+
+-- session 3's first transaction, which reads at the version
+abbrev pub opened : ℕ → Transcript
+opened version = record { id = record { session = 3; number = 0 }; read_version = version; ops = [] }
+
+-- a receipt at the entry at 100
+abbrev pub received : ReceiptAtFront
+received = record { front = two_in_one_entry; spot = spot.Entry 0 0 100; transcript = reads_and_sets 0 None }
+
+-- A session begins at the version that it is granted, and sees what that was granted with; or at its mark, where that
+-- is greater, and then it has seen more. A number is used once. What it learns raises its mark and its front, and never
+-- lowers them.
+abbrev pub WorkedSessions : Type 0
+WorkedSessions =
+    (beginning fresh granted
+    ≡ record { number = 3; next_number = 1; front = two_in_one_entry; mark = 0; current = Some (opened 100) })
+    × (beginning marked granted ≡ record marked { next_number = 1; current = Some (opened 200) })
+    × (beginning marked granted ≡ record marked { next_number = 1; current = Some (opened 100) } → ⊥)
+    × (begin_fault fresh ≡ None)
+    × (begin_fault (record fresh { next_number = 18446744073709551614 }) ≡ None)
+    × (begin_fault (record fresh { next_number = 18446744073709551615 }) ≡ Some refusal.Exhausted)
+    × (learning fresh received ≡ record fresh { front = two_in_one_entry; mark = 100 })
+    × (learning marked received ≡ marked)
+
+-- the second of the two transactions, in an entry so far behind its read version that it is too old
+abbrev pub far : List Entry
+far = record {
+  version = 5000001;
+  prev = 0;
+  moves = [];
+  batch = commit_request_of (reads_and_sets 1 None) ∷ [];
+} ∷ []
+
+-- The second one read what the first one wrote: it is turned down for a conflict, and not as too old; the first one
+-- isn't turned down, and on a front without the entry nobody is. In an entry behind the window it is too old, and has
+-- no conflict.
+abbrev pub WorkedTurnedDown : Type 0
+WorkedTurnedDown =
+    IsTurnedDown [] two_in_one_entry (reads_and_sets 1 None) refusal.NotCommitted
+    × (IsTurnedDown [] two_in_one_entry (reads_and_sets 1 None) refusal.TransactionTooOld → ⊥)
+    × (IsTurnedDown [] two_in_one_entry (reads_and_sets 0 None) refusal.NotCommitted → ⊥)
+    × (IsTurnedDown [] [] (reads_and_sets 1 None) refusal.NotCommitted → ⊥)
+    × IsTurnedDown [] far (reads_and_sets 1 None) refusal.TransactionTooOld
+    × (IsTurnedDown [] far (reads_and_sets 1 None) refusal.NotCommitted → ⊥)
+
+-- What tells nothing of the book is handed on as it is; what a front would have to show, that memory ran out, and what
+-- ends no transaction leave it open what became of the transaction.
+abbrev pub WorkedReasons : Type 0
+WorkedReasons =
+    (plain_reason refusal.Failed ≡ refusal.Failed)
+    × (plain_reason refusal.Closed ≡ refusal.Closed)
+    × (plain_reason refusal.Exhausted ≡ refusal.Exhausted)
+    × (plain_reason refusal.Chain ≡ refusal.Chain)
+    × (plain_reason (refusal.Repeated 7) ≡ refusal.Repeated 7)
+    × (plain_reason refusal.NotCommitted ≡ refusal.CommitUnknownResult)
+    × (plain_reason refusal.TransactionTooOld ≡ refusal.CommitUnknownResult)
+    × (plain_reason refusal.BookFull ≡ refusal.CommitUnknownResult)
+    × (plain_reason refusal.NoMemory ≡ refusal.CommitUnknownResult)
+    × (plain_reason refusal.WrongState ≡ refusal.CommitUnknownResult)
+
+-- one of each role, and a book of so many entries
+abbrev pub of_book : ℕ → Config
+of_book entries = record plain { book = entries }
+
+-- what session 3 comes to that sees the entry at 100
+abbrev pub has_seen : Session
+has_seen = record fresh { front = two_in_one_entry }
+
+-- The book is full where the front has as many entries as it may have; where it has fewer, nobody is told so.
+abbrev pub WorkedFullBooks : Type 0
+WorkedFullBooks =
+    IsByFull (of_book 1) fresh two_in_one_entry refusal.BookFull has_seen
+    × (IsByFull (of_book 2) fresh two_in_one_entry refusal.BookFull has_seen → ⊥)
+    × (IsByFull (of_book 1) fresh two_in_one_entry refusal.BookFull fresh → ⊥)
+    × (IsByFull (of_book 1) fresh two_in_one_entry refusal.Failed has_seen → ⊥)
+    × Tells (of_book 1) two_in_one_entry does_nothing refusal.BookFull
+    × (Tells (of_book 2) two_in_one_entry does_nothing refusal.BookFull → ⊥)
+
+-- The first reason stays why a shard's thread ended, but for the end of the database, which only a failure of the shard
+-- itself stands before. Then nobody reads there, also at a version that the shard has come to; after any other end who
+-- reads at such a version does.
+abbrev pub WorkedEndings : Type 0
+WorkedEndings =
+    (ended_by false None refusal.Failed ≡ Some refusal.Failed)
+    × (ended_by false (Some refusal.Failed) refusal.Closed ≡ Some refusal.Closed)
+    × (ended_by false (Some refusal.Closed) refusal.Failed ≡ Some refusal.Closed)
+    × (ended_by true (Some refusal.Failed) refusal.Closed ≡ Some refusal.Failed)
+    × (reach_fault (Some refusal.Closed) 100 100 ≡ Some refusal.Closed)
+    × (reach_fault (Some refusal.Failed) 100 100 ≡ None)
+    × (reach_fault (Some refusal.Failed) 100 101 ≡ Some refusal.Failed)
+    × (reach_fault None 100 101 ≡ None)
