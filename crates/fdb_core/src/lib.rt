@@ -13,7 +13,7 @@ mod world;
 
 pub use fdb_check::{CheckFault, serial_check};
 pub use fdb_client::is_answered_on;
-pub use fdb_machine::{Answered, InFlight, Step};
+pub use fdb_machine::{Answered, AnyStep, InFlight, Step};
 pub use fdb_proxy::{Config, Outcome};
 pub use fdb_resolver::Verdict;
 pub use fdb_roles::Placed;

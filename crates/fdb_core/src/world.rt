@@ -45,7 +45,7 @@ impl World {
     ghost use Rattle.fdb_keys.specs.declared.refusal.Refusal.{Refusal};
     ghost use Rattle.fdb_proxy.specs.declared.config.Config.{Config};
     ghost use Rattle.fdb_machine.specs.declared.step.Answered.{Answered};
-    ghost use Rattle.fdb_machine.specs.declared.step.Step.{Step};
+    ghost use Rattle.fdb_machine.specs.machine.AnyStep.{Step};
     ghost use Rattle.std.specs.Option.{option_copied};
     ghost use Rattle.fdb_txn.specs.book.History.{IsBook, IsSealed};
     ghost use Rattle.fdb_machine.specs.machine.InFlight.{in_flight};

@@ -1,3 +1,4 @@
+pub mod AnyStep
 pub mod Acting
 pub mod ClientSteps
 pub mod CommitProxySteps

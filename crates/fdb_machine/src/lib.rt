@@ -7,4 +7,4 @@ pub mod laws;
 mod step;
 
 pub use in_flight::InFlight;
-pub use step::{Answered, Step};
+pub use step::{Answered, AnyStep, Step};

@@ -4,9 +4,10 @@ use fdb_mutations::Mutation;
 use fdb_proxy::Outcome;
 use fdb_resolver::Verdict;
 
-/// One step of a client or of a role. Roles, entries and sessions are named by their numbers, from 0.
-#[derive(Drop)]
-pub enum Step {
+/// One step of a client or of a role, with keys, ranges and mutations of these types. Roles, entries and sessions are
+/// named by their numbers, from 0.
+#[derive(Clone, Copy, Drop)]
+pub enum AnyStep<K, R, M> {
     /// The session asks a read-version proxy for a transaction. One that is open is dropped.
     Ask {
         session: u32,
@@ -19,14 +20,14 @@ pub enum Step {
     /// The session's transaction reads a key. A snapshot read adds nothing to the read set.
     Get {
         session: u32,
-        key: Key,
+        key: K,
         snapshot: bool,
     },
     /// The session's transaction reads the first pairs of a range, or the last ones from its end: at most `limit` of
     /// them, or all where it is 0. A snapshot read adds nothing to the read set.
     GetRange {
         session: u32,
-        range: KeyRange,
+        range: R,
         limit: u32,
         reverse: bool,
         snapshot: bool,
@@ -34,17 +35,17 @@ pub enum Step {
     /// The session's transaction buffers a mutation.
     Write {
         session: u32,
-        mutation: Mutation,
+        mutation: M,
     },
     /// The session's transaction adds a range to its read set, whole.
     AddRead {
         session: u32,
-        range: KeyRange,
+        range: R,
     },
     /// The session's transaction adds a range to its write set, whole.
     AddWrite {
         session: u32,
-        range: KeyRange,
+        range: R,
     },
     /// The session submits its transaction to a commit proxy.
     Submit {
@@ -104,10 +105,13 @@ pub enum Step {
     },
     /// The keys of the range go over to the resolver, with the next entry.
     Move {
-        range: KeyRange,
+        range: R,
         to: u32,
     },
 }
+
+/// One step of a client or of a role.
+pub type Step = AnyStep<Key, KeyRange, Mutation>;
 
 /// What an accepted step answers.
 #[derive(Drop, PartialEq, Eq)]

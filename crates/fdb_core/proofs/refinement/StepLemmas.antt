@@ -6,7 +6,7 @@ use Rattle.fdb_keys.specs.declared.refusal.Refusal.TheVariants.{NoMemory, Unknow
 use Rattle.fdb_txn.specs.declared.entry.Entry.{Entry}
 use Rattle.fdb_core.specs.declared.cluster.Cluster.{Cluster}
 use Rattle.fdb_machine.specs.declared.step.Answered.{Answered}
-use Rattle.fdb_machine.specs.declared.step.Step.{Step}
+use Rattle.fdb_machine.specs.machine.AnyStep.{Step}
 use Rattle.fdb_machine.specs.machine.Failures.{uses_failed, unless_failed}
 use Rattle.fdb_machine.specs.machine.Machine.{Machine, Transition, in_turn, refused_where}
 use Rattle.fdb_machine.specs.machine.Steps.{next, answer_of, after, ran_out, ByTest}

@@ -3,7 +3,7 @@ use Rattle.std.specs.Prelude.{◌≡◌, ◌⊎◌, Result}
 use Rattle.fdb_keys.specs.declared.refusal.Refusal.{Refusal}
 use Rattle.fdb_core.specs.declared.cluster.Cluster.{Cluster}
 use Rattle.fdb_machine.specs.declared.step.Answered.{Answered}
-use Rattle.fdb_machine.specs.declared.step.Step.{Step}
+use Rattle.fdb_machine.specs.machine.AnyStep.{Step}
 use Rattle.fdb_machine.specs.machine.Failures.{FailsIn, uses_failed, unless_failed}
 use Rattle.fdb_machine.specs.machine.Machine.{Transition}
 use Rattle.fdb_machine.specs.machine.Steps.{next, answer_of, after, ran_out, ByTest}

@@ -4,7 +4,7 @@ ghost use Rattle.fdb_txn.specs.declared.spot.Spot.TheVariants as spot;
 ghost use Rattle.fdb_core.specs.declared.roles.commit_proxy.CommitProxyRole.{CommitProxyRole};
 ghost use Rattle.fdb_machine.specs.declared.step.Answered.TheVariants as answered;
 ghost use Rattle.fdb_machine.specs.invariant.Invariant.{Invariant};
-ghost use Rattle.fdb_machine.specs.declared.step.Step.TheVariants as step;
+ghost use Rattle.fdb_machine.specs.declared.step.AnyStep.TheVariants as step;
 ghost use Rattle.fdb_core.specs.refinement.Cluster.{machine_of};
 ghost use Rattle.fdb_core.specs.refinement.Restoring.{Tied, proxy_failed};
 ghost use Rattle.fdb_core.specs.refinement.client.Noting.{step_with};

@@ -3,7 +3,7 @@ ghost use Rattle.std.specs.Prelude.{◌≡◌, ◌+◌, ◌≤◌, ◌⊎◌, �
 ghost use Rattle.std.specs.Prelude.{vec_len, vec_capacity};
 ghost use Rattle.fdb_keys.specs.declared.refusal.Refusal.TheVariants.{NoMemory};
 ghost use Rattle.fdb_machine.specs.invariant.Invariant.{Invariant};
-ghost use Rattle.fdb_machine.specs.declared.step.Step.TheVariants as step;
+ghost use Rattle.fdb_machine.specs.declared.step.AnyStep.TheVariants as step;
 ghost use Rattle.fdb_machine.specs.machine.CommitProxySteps.{taken_by_sender};
 ghost use Rattle.fdb_core.specs.refinement.Cluster.{machine_of};
 ghost use Rattle.fdb_core.specs.refinement.Restoring.{Tied};

@@ -1,6 +1,6 @@
 // Sessions ask a read-version proxy, which serves them.
 ghost use Rattle.fdb_machine.specs.invariant.Invariant.{Invariant};
-ghost use Rattle.fdb_machine.specs.declared.step.Step.TheVariants as step;
+ghost use Rattle.fdb_machine.specs.declared.step.AnyStep.TheVariants as step;
 ghost use Rattle.fdb_core.specs.refinement.Cluster.{machine_of};
 ghost use Rattle.fdb_core.specs.refinement.Restoring.{Tied};
 ghost use Rattle.fdb_core.specs.refinement.Steps.{Takes};

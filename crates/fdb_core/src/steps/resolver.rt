@@ -1,5 +1,5 @@
 // A resolver takes its part of an entry.
-ghost use Rattle.fdb_machine.specs.declared.step.Step.TheVariants as step;
+ghost use Rattle.fdb_machine.specs.declared.step.AnyStep.TheVariants as step;
 ghost use Rattle.fdb_core.specs.refinement.Restoring.{Tied};
 ghost use Rattle.fdb_core.specs.refinement.Steps.{Takes};
 

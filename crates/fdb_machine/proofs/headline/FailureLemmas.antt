@@ -17,8 +17,8 @@ use Rattle.fdb_machine.specs.machine.Machine.{Machine, is_set}
 use Rattle.fdb_machine.specs.machine.Sessions.{open_at}
 use Rattle.fdb_machine.specs.machine.Steps.{next}
 use Rattle.fdb_machine.specs.machine.Worlds.{taken_of}
-use Rattle.fdb_machine.specs.declared.step.Step.{Step}
-use Rattle.fdb_machine.specs.declared.step.Step.TheVariants as step
+use Rattle.fdb_machine.specs.machine.AnyStep.{Step}
+use Rattle.fdb_machine.specs.declared.step.AnyStep.TheVariants as step
 
 -- no flag is set among flags that aren't
 none-set : (n i : ℕ) → is_set (replicate n false) i ≡ false

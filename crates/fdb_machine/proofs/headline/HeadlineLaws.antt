@@ -18,7 +18,7 @@ use Rattle.fdb_machine.proofs.readings.TraceReadings.{acknowledged_serialized, c
 use Rattle.fdb_machine.proofs.readings.TraceReadings.{real_time, trace-tells}
 use Rattle.fdb_machine.proofs.machine.Steps.{kept-next}
 use Rattle.fdb_machine.specs.declared.step.Answered.{Answered}
-use Rattle.fdb_machine.specs.declared.step.Step.{Step}
+use Rattle.fdb_machine.specs.machine.AnyStep.{Step}
 
 -- every step leaves a sound machine sound
 pub sound-after : (m : Machine) (one_step : Step) → Invariant m → Invariant (after m (next m one_step))

@@ -8,7 +8,7 @@ use Rattle.fdb_machine.specs.machine.Machine.{Machine, Transition}
 use Rattle.fdb_machine.specs.machine.Steps.{next, answer_of, after}
 use Rattle.fdb_machine.specs.machine.Worlds.{IsStep, IsRun}
 use Rattle.fdb_machine.specs.declared.step.Answered.{Answered}
-use Rattle.fdb_machine.specs.declared.step.Step.{Step}
+use Rattle.fdb_machine.specs.machine.AnyStep.{Step}
 
 -- a run goes on by one step
 pub run-push : (old mid new : State) (steps : List Step) (answers : List (Result Answered Refusal))

@@ -47,8 +47,8 @@ use Rattle.fdb_machine.proofs.headline.FailureLemmas.{none-taken}
 use Rattle.fdb_machine.proofs.machine.SessionMaps.{session-put, session-new}
 use Rattle.fdb_machine.specs.declared.step.Answered.{Answered}
 use Rattle.fdb_machine.specs.declared.step.Answered.TheVariants as answered
-use Rattle.fdb_machine.specs.declared.step.Step.{Step}
-use Rattle.fdb_machine.specs.declared.step.Step.TheVariants as step
+use Rattle.fdb_machine.specs.machine.AnyStep.{Step}
+use Rattle.fdb_machine.specs.declared.step.AnyStep.TheVariants as step
 
 -- sessions with their numbers, the last one that changed first
 abbrev Known : Type 0

@@ -8,7 +8,7 @@ use Rattle.fdb_machine.specs.headline.Traces.{after_step, after_steps, TracesDet
 use Rattle.fdb_machine.specs.machine.Worlds.{first_state, IsRun}
 use Rattle.fdb_machine.proofs.headline.RunsLemmas.{IsMachineStep, run-next}
 use Rattle.fdb_machine.specs.declared.step.Answered.{Answered}
-use Rattle.fdb_machine.specs.declared.step.Step.{Step}
+use Rattle.fdb_machine.specs.machine.AnyStep.{Step}
 
 -- what every step keeps holds after any step with any answer
 kept-after_step : (P : Machine → Type 0) → ((m : Machine) (one_step : Step) → P m → P (after m (next m one_step)))

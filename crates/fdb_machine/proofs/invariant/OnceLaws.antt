@@ -34,7 +34,7 @@ use Rattle.fdb_machine.proofs.machine.SessionMaps.{session-new}
 use Rattle.fdb_machine.proofs.machine.Steps.{KeptBySteps, kept-by_trace}
 use Rattle.fdb_machine.proofs.machine.Sealing.{sealed_entry, sealed_proxy, sealed_machine}
 use Rattle.fdb_machine.specs.declared.step.Answered.{Answered}
-use Rattle.fdb_machine.specs.declared.step.Step.{Step}
+use Rattle.fdb_machine.specs.machine.AnyStep.{Step}
 
 -- a number is counted once at most among those up to the last one
 pub up_to-one : (number : ℕ) (last : Option ℕ) → up_to number last ≤ 1

@@ -34,7 +34,7 @@ use Rattle.fdb_machine.proofs.machine.SessionMaps.{session-there}
 use Rattle.fdb_machine.proofs.invariant.SoundLaws.{sound_steps, sound-trace}
 use Rattle.fdb_machine.proofs.machine.Steps.{KeptBySteps, kept-by_trace}
 use Rattle.fdb_machine.specs.declared.step.Answered.{Answered}
-use Rattle.fdb_machine.specs.declared.step.Step.{Step}
+use Rattle.fdb_machine.specs.machine.AnyStep.{Step}
 
 -- the transaction of this id has begun in the machine: the session's last one has its number or a greater one
 abbrev pub MachineHasBegun : Machine → TxnId → Type 0

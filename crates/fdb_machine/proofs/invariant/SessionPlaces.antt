@@ -27,7 +27,7 @@ use Rattle.fdb_machine.proofs.machine.SessionMaps.{session-new}
 use Rattle.fdb_machine.proofs.machine.Steps.{KeptBySteps, kept-by_trace}
 use Rattle.fdb_machine.proofs.machine.Sealing.{sealed_proxy, sealed_machine}
 use Rattle.fdb_machine.specs.declared.step.Answered.{Answered}
-use Rattle.fdb_machine.specs.declared.step.Step.{Step}
+use Rattle.fdb_machine.specs.machine.AnyStep.{Step}
 
 -- it is in one place at most
 pub one-place : (state : SessionState) → asks_as state + waits_as state ≤ 1

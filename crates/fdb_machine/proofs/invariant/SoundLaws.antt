@@ -32,7 +32,7 @@ use Rattle.fdb_machine.proofs.machine.Sealing.{last-at, sealed_entry, sealed_pro
 use Rattle.fdb_machine.proofs.machine.SessionLemmas.{open-has, open-put, open-served, open-told, open-new, open-weaken}
 use Rattle.fdb_machine.proofs.machine.Steps.{KeptBySteps, kept-by_trace}
 use Rattle.fdb_machine.specs.declared.step.Answered.{Answered}
-use Rattle.fdb_machine.specs.declared.step.Step.{Step}
+use Rattle.fdb_machine.specs.machine.AnyStep.{Step}
 
 module _ (m : Machine) (sound : Invariant m) where
   -- where the book, what is pending and the committed version stay, a machine is sound by its transactions

@@ -12,8 +12,8 @@ use Rattle.fdb_machine.specs.machine.Roles.{CommitProxy, Stage, Resolving, Loggi
 use Rattle.fdb_machine.specs.machine.Roles.{FromLog}
 use Rattle.fdb_machine.specs.declared.step.Answered.{Answered}
 use Rattle.fdb_machine.specs.declared.step.Answered.TheVariants as answered
-use Rattle.fdb_machine.specs.declared.step.Step.{Step}
-use Rattle.fdb_machine.specs.declared.step.Step.TheVariants as step
+use Rattle.fdb_machine.specs.machine.AnyStep.{Step}
+use Rattle.fdb_machine.specs.declared.step.AnyStep.TheVariants as step
 
 -- a resolver took the next entry
 pub record ResolverTook (m : Machine) (i resolver : ℕ) (answer : Answered) (resolvers logs : List ℕ)

@@ -44,8 +44,8 @@ use Rattle.fdb_machine.proofs.machine.RoleChanges.{RoleWent, ProxyWent}
 use Rattle.fdb_machine.proofs.machine.Sealing.{sealed_machine}
 use Rattle.fdb_machine.specs.declared.step.Answered.{Answered}
 use Rattle.fdb_machine.specs.declared.step.Answered.TheVariants as answered
-use Rattle.fdb_machine.specs.declared.step.Step.{Step}
-use Rattle.fdb_machine.specs.declared.step.Step.TheVariants as step
+use Rattle.fdb_machine.specs.machine.AnyStep.{Step}
+use Rattle.fdb_machine.specs.declared.step.AnyStep.TheVariants as step
 
 -- the operation of a client's step, with its session
 abbrev pub operation_of : Step → Option (ℕ × Op)

@@ -30,8 +30,8 @@ use Rattle.fdb_machine.proofs.readings.GrantLemmas.{NumbersBegun}
 use Rattle.fdb_machine.proofs.readings.SessionLists.{OpenTold, item-after-set}
 use Rattle.fdb_machine.specs.declared.step.Answered.{Answered}
 use Rattle.fdb_machine.specs.declared.step.Answered.TheVariants as answered
-use Rattle.fdb_machine.specs.declared.step.Step.{Step}
-use Rattle.fdb_machine.specs.declared.step.Step.TheVariants as step
+use Rattle.fdb_machine.specs.machine.AnyStep.{Step}
+use Rattle.fdb_machine.specs.declared.step.AnyStep.TheVariants as step
 
 -- A commit proxy has those who are told to wait there, and unless it has none the batch of its last Seal.
 pub record AtProxy (book : List Entry) (waiting : List Transcript)

@@ -46,8 +46,8 @@ use Rattle.fdb_machine.proofs.readings.StepReadings.{batch-at, tells_steps}
 use Rattle.fdb_machine.proofs.readings.TraceReadings.{config-kept, trace-tells, trace-tells-roles}
 use Rattle.fdb_machine.specs.declared.step.Answered.{Answered}
 use Rattle.fdb_machine.specs.declared.step.Answered.TheVariants as answered
-use Rattle.fdb_machine.specs.declared.step.Step.{Step}
-use Rattle.fdb_machine.specs.declared.step.Step.TheVariants as step
+use Rattle.fdb_machine.specs.machine.AnyStep.{Step}
+use Rattle.fdb_machine.specs.declared.step.AnyStep.TheVariants as step
 
 -- an accepted step is answered by what is told of the machine
 abbrev AnswersTold : Machine → Step → Answered → Machine → Type 0

@@ -41,8 +41,8 @@ use Rattle.fdb_machine.proofs.readings.RoleReadings.{entry-within}
 use Rattle.fdb_machine.proofs.readings.RoleReplies.{asked-about}
 use Rattle.fdb_machine.proofs.readings.TraceReadings.{config-kept, trace-tells, trace-tells-roles}
 use Rattle.fdb_machine.specs.declared.step.Answered.{Answered}
-use Rattle.fdb_machine.specs.declared.step.Step.{Step}
-use Rattle.fdb_machine.specs.declared.step.Step.TheVariants as step
+use Rattle.fdb_machine.specs.machine.AnyStep.{Step}
+use Rattle.fdb_machine.specs.declared.step.AnyStep.TheVariants as step
 
 -- ---- what is missing
 

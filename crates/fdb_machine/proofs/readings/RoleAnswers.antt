@@ -32,8 +32,8 @@ use Rattle.fdb_machine.proofs.readings.RoleReplies.{verdict-by-rule, said-at, sa
 use Rattle.fdb_machine.proofs.readings.RoleReplies.{none-missing, count-up-to}
 use Rattle.fdb_machine.specs.declared.step.Answered.{Answered}
 use Rattle.fdb_machine.specs.declared.step.Answered.TheVariants as answered
-use Rattle.fdb_machine.specs.declared.step.Step.{Step}
-use Rattle.fdb_machine.specs.declared.step.Step.TheVariants as step
+use Rattle.fdb_machine.specs.machine.AnyStep.{Step}
+use Rattle.fdb_machine.specs.declared.step.AnyStep.TheVariants as step
 
 -- there are as many resolvers and logs as the configuration says
 pub record HasRoles (m : Machine) : Type 0 where

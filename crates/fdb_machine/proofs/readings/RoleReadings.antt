@@ -28,8 +28,8 @@ use Rattle.fdb_machine.proofs.readings.RoleAgreement.{none-before, there-not_non
 use Rattle.fdb_machine.proofs.readings.RoleAgreement.{stage-stays, one-told}
 use Rattle.fdb_machine.proofs.readings.SessionLists.{item-after-set}
 use Rattle.fdb_machine.specs.declared.step.Answered.{Answered}
-use Rattle.fdb_machine.specs.declared.step.Step.{Step}
-use Rattle.fdb_machine.specs.declared.step.Step.TheVariants as step
+use Rattle.fdb_machine.specs.machine.AnyStep.{Step}
+use Rattle.fdb_machine.specs.declared.step.AnyStep.TheVariants as step
 
 -- what a step tells beside what was told before is how far the machine's roles go
 abbrev pub RolesTellOn : Machine → Step → Answered → Machine → Type 0

@@ -44,7 +44,7 @@ use Rattle.fdb_machine.proofs.readings.RoleAgreement.{ProxyTold, ShardTold, Tell
 use Rattle.fdb_machine.proofs.readings.RoleReadings.{RolesTellOn, roles_tell_steps}
 use Rattle.fdb_machine.proofs.readings.StepReadings.{tells_steps}
 use Rattle.fdb_machine.specs.declared.step.Answered.{Answered}
-use Rattle.fdb_machine.specs.declared.step.Step.{Step}
+use Rattle.fdb_machine.specs.machine.AnyStep.{Step}
 
 -- a step that is answered as the machine answers it tells what the machine goes on to
 step-tells : (m : Machine) (r : Readings) (one_step : Step) → Invariant m → TellsMachine r m

@@ -8,8 +8,8 @@ use Rattle.fdb_machine.specs.headline.Readings.{Readings, readings_of}
 use Rattle.fdb_machine.specs.headline.ScriptExamples.{Line, parted_at_m, steps_of, answers_of, freshness, one_batch}
 use Rattle.fdb_machine.specs.declared.step.Answered.{Answered}
 use Rattle.fdb_machine.specs.declared.step.Answered.TheVariants as answered
-use Rattle.fdb_machine.specs.declared.step.Step.{Step}
-use Rattle.fdb_machine.specs.declared.step.Step.TheVariants as step
+use Rattle.fdb_machine.specs.machine.AnyStep.{Step}
+use Rattle.fdb_machine.specs.declared.step.AnyStep.TheVariants as step
 
 -- what the first lines of a script tell
 abbrev pub told_by : ℕ → List Line → Readings

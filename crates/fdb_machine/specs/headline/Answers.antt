@@ -31,8 +31,8 @@ use Rattle.fdb_machine.specs.headline.Traces.{IsTraceOf}
 use Rattle.fdb_machine.specs.machine.Failures.{State}
 use Rattle.fdb_machine.specs.declared.step.Answered.{Answered}
 use Rattle.fdb_machine.specs.declared.step.Answered.TheVariants as answered
-use Rattle.fdb_machine.specs.declared.step.Step.{Step}
-use Rattle.fdb_machine.specs.declared.step.Step.TheVariants as step
+use Rattle.fdb_machine.specs.machine.AnyStep.{Step}
+use Rattle.fdb_machine.specs.declared.step.AnyStep.TheVariants as step
 
 -- The client of place p of a batch is told, by its session, what became of its transaction by the rule, and the
 -- transaction is acknowledged there exactly where it is committed.

@@ -8,7 +8,7 @@ use Rattle.fdb_machine.specs.headline.Readings.{Readings, readings_of}
 use Rattle.fdb_machine.specs.headline.Traces.{IsTraceOf}
 use Rattle.fdb_machine.specs.machine.Failures.{State}
 use Rattle.fdb_machine.specs.declared.step.Answered.{Answered}
-use Rattle.fdb_machine.specs.declared.step.Step.{Step}
+use Rattle.fdb_machine.specs.machine.AnyStep.{Step}
 
 -- The entries are a book for as many resolvers as there are, so that no transaction is in it twice, and each
 -- transaction's write set has all that its mutations name.

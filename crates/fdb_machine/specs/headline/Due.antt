@@ -13,8 +13,8 @@ use Rattle.fdb_machine.specs.machine.Failures.{State, uses_failed}
 use Rattle.fdb_machine.specs.machine.Steps.{ran_out}
 use Rattle.fdb_machine.specs.machine.Worlds.{IsStep}
 use Rattle.fdb_machine.specs.declared.step.Answered.{Answered}
-use Rattle.fdb_machine.specs.declared.step.Step.{Step}
-use Rattle.fdb_machine.specs.declared.step.Step.TheVariants as step
+use Rattle.fdb_machine.specs.machine.AnyStep.{Step}
+use Rattle.fdb_machine.specs.declared.step.AnyStep.TheVariants as step
 
 module _ (config : Config) (r : Readings) where
   -- the entry is the next one for the resolver

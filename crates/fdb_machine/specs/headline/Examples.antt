@@ -33,8 +33,8 @@ use Rattle.fdb_machine.specs.machine.Steps.{next}
 use Rattle.fdb_machine.specs.machine.Worlds.{start}
 use Rattle.fdb_machine.specs.declared.step.Answered.{Answered}
 use Rattle.fdb_machine.specs.declared.step.Answered.TheVariants as answered
-use Rattle.fdb_machine.specs.declared.step.Step.{Step}
-use Rattle.fdb_machine.specs.declared.step.Step.TheVariants as step
+use Rattle.fdb_machine.specs.machine.AnyStep.{Step}
+use Rattle.fdb_machine.specs.declared.step.AnyStep.TheVariants as step
 
 -- The first one is serialized at its place, under the entry's version; not at the other place or under another version,
 -- and not if it had been answered otherwise. The second one read what the first one wrote, so it isn't committed, and

@@ -11,7 +11,7 @@ use Rattle.fdb_machine.specs.headline.Examples.{reads_only}
 use Rattle.fdb_machine.specs.machine.Failures.{Failures, State, none_failed, asks_failed, submits_failed}
 use Rattle.fdb_machine.specs.machine.Machine.{Machine}
 use Rattle.fdb_machine.specs.machine.Worlds.{IsStep, first_state, start, taken_of}
-use Rattle.fdb_machine.specs.declared.step.Step.TheVariants as step
+use Rattle.fdb_machine.specs.declared.step.AnyStep.TheVariants as step
 
 -- one entry, which the proxy decided, and which nobody took
 abbrev pub one_entry : Machine

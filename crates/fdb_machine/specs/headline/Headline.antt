@@ -14,7 +14,7 @@ use Rattle.fdb_machine.specs.headline.RealTime.{KeepsRealTime}
 use Rattle.fdb_machine.specs.headline.Serving.{System, AllServe}
 use Rattle.fdb_machine.specs.headline.Traces.{IsTraceOf}
 use Rattle.fdb_machine.specs.declared.step.Answered.{Answered}
-use Rattle.fdb_machine.specs.declared.step.Step.{Step}
+use Rattle.fdb_machine.specs.machine.AnyStep.{Step}
 
 -- each acknowledged transaction is serialized at its spot, whose version the entries have come to
 abbrev pub AllSerialized : List Point → Readings → Type 0

@@ -14,7 +14,7 @@ use Rattle.fdb_machine.specs.machine.Steps.{next, answer_of}
 use Rattle.fdb_machine.specs.machine.Worlds.{start}
 use Rattle.fdb_machine.specs.declared.step.Answered.{Answered}
 use Rattle.fdb_machine.specs.declared.step.Answered.TheVariants as answered
-use Rattle.fdb_machine.specs.declared.step.Step.TheVariants as step
+use Rattle.fdb_machine.specs.declared.step.AnyStep.TheVariants as step
 
 -- two resolvers, and one of each other role
 abbrev pub two_resolvers : Config

@@ -26,8 +26,8 @@ use Rattle.fdb_machine.specs.machine.Machine.{Machine, Transition}
 use Rattle.fdb_machine.specs.machine.Sessions.{open_at}
 use Rattle.fdb_machine.specs.machine.Steps.{next, after}
 use Rattle.fdb_machine.specs.declared.step.Answered.TheVariants as answered
-use Rattle.fdb_machine.specs.declared.step.Step.{Step}
-use Rattle.fdb_machine.specs.declared.step.Step.TheVariants as step
+use Rattle.fdb_machine.specs.machine.AnyStep.{Step}
+use Rattle.fdb_machine.specs.declared.step.AnyStep.TheVariants as step
 use Rattle.fdb_machine.specs.declared.step.Answered.{Answered}
 
 -- a refused step changes nothing

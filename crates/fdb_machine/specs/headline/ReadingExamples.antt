@@ -15,8 +15,8 @@ use Rattle.fdb_roles.specs.SmallBooks.{from_to}
 use Rattle.fdb_machine.specs.headline.Readings.{Readings, Progress, readings_of}
 use Rattle.fdb_machine.specs.declared.step.Answered.{Answered}
 use Rattle.fdb_machine.specs.declared.step.Answered.TheVariants as answered
-use Rattle.fdb_machine.specs.declared.step.Step.{Step}
-use Rattle.fdb_machine.specs.declared.step.Step.TheVariants as step
+use Rattle.fdb_machine.specs.machine.AnyStep.{Step}
+use Rattle.fdb_machine.specs.declared.step.AnyStep.TheVariants as step
 
 abbrev pub a_to_c : Range
 a_to_c = from_to (codes "a") (codes "c")

@@ -20,8 +20,8 @@ use Rattle.fdb_client.specs.Programs.{commit_request_of}
 use Rattle.fdb_roles.specs.declared.placed.Placed.{Placed}
 use Rattle.fdb_machine.specs.declared.step.Answered.{Answered}
 use Rattle.fdb_machine.specs.declared.step.Answered.TheVariants as answered
-use Rattle.fdb_machine.specs.declared.step.Step.{Step}
-use Rattle.fdb_machine.specs.declared.step.Step.TheVariants as step
+use Rattle.fdb_machine.specs.machine.AnyStep.{Step}
+use Rattle.fdb_machine.specs.declared.step.AnyStep.TheVariants as step
 
 -- the batch of a proxy's last Seal: the number and the version of its entry, and the transactions by place
 pub record SealedBatch : Type 0 where

@@ -9,7 +9,7 @@ use Rattle.fdb_machine.specs.machine.Failures.{State}
 use Rattle.fdb_machine.specs.headline.Readings.{Readings, readings_of, times_begun}
 use Rattle.fdb_machine.specs.headline.Traces.{IsTraceOf}
 use Rattle.fdb_machine.specs.declared.step.Answered.{Answered}
-use Rattle.fdb_machine.specs.declared.step.Step.{Step}
+use Rattle.fdb_machine.specs.machine.AnyStep.{Step}
 
 -- the transaction of this id has begun: its session began more than those before it
 abbrev pub HasBegun : Readings → TxnId → Type 0

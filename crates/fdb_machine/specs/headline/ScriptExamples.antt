@@ -14,8 +14,8 @@ use Rattle.fdb_machine.specs.headline.Traces.{machine_of_trace, IsTraceOf}
 use Rattle.fdb_machine.specs.machine.Failures.{none_failed}
 use Rattle.fdb_machine.specs.declared.step.Answered.{Answered}
 use Rattle.fdb_machine.specs.declared.step.Answered.TheVariants as answered
-use Rattle.fdb_machine.specs.declared.step.Step.{Step}
-use Rattle.fdb_machine.specs.declared.step.Step.TheVariants as step
+use Rattle.fdb_machine.specs.machine.AnyStep.{Step}
+use Rattle.fdb_machine.specs.declared.step.AnyStep.TheVariants as step
 
 -- a step with its answer
 abbrev pub Line : Type 0

@@ -12,8 +12,8 @@ use Rattle.fdb_machine.specs.machine.Roles.{CommitProxy}
 use Rattle.fdb_machine.specs.machine.Sessions.{SessionState, Asking, Waiting, session_of}
 use Rattle.fdb_machine.specs.machine.Steps.{next}
 use Rattle.fdb_machine.specs.declared.step.Answered.{Answered}
-use Rattle.fdb_machine.specs.declared.step.Step.{Step}
-use Rattle.fdb_machine.specs.declared.step.Step.TheVariants as step
+use Rattle.fdb_machine.specs.machine.AnyStep.{Step}
+use Rattle.fdb_machine.specs.declared.step.AnyStep.TheVariants as step
 
 module _ (session : ℕ) where
   -- the transcript is of the session

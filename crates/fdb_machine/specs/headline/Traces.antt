@@ -12,7 +12,7 @@ use Rattle.fdb_machine.specs.machine.Sessions.{session_of, open_at, next_number,
 use Rattle.fdb_machine.specs.machine.Steps.{next, after}
 use Rattle.fdb_machine.specs.machine.Worlds.{start, first_state, IsRun}
 use Rattle.fdb_machine.specs.declared.step.Answered.{Answered}
-use Rattle.fdb_machine.specs.declared.step.Step.{Step}
+use Rattle.fdb_machine.specs.machine.AnyStep.{Step}
 
 -- the machine after a step with its answer: an accepted step takes it on, a refused one leaves it as it is
 abbrev pub after_step : Machine → Step → Result Answered Refusal → Machine

@@ -15,8 +15,8 @@ use Rattle.fdb_client.specs.Programs.{program, decided, is_read_only}
 use Rattle.fdb_machine.specs.machine.ClientSteps.{shard_begins}
 use Rattle.fdb_machine.specs.machine.Machine.{Machine, Transition, is_set}
 use Rattle.fdb_machine.specs.machine.Sessions.{open_at}
-use Rattle.fdb_machine.specs.declared.step.Step.{Step}
-use Rattle.fdb_machine.specs.declared.step.Step.TheVariants as step
+use Rattle.fdb_machine.specs.machine.AnyStep.{Step}
+use Rattle.fdb_machine.specs.declared.step.AnyStep.TheVariants as step
 
 -- for each role that may fail, by its number, whether it has
 pub record Failures : Type 0 where

@@ -10,8 +10,8 @@ use Rattle.fdb_machine.specs.machine.CommitProxySteps.{seals, receives, decides,
 use Rattle.fdb_machine.specs.machine.Roles.{FromResolver, FromLog}
 use Rattle.fdb_machine.specs.machine.RoleSteps.{resolves, pushes, pulls, forgets, pops}
 use Rattle.fdb_machine.specs.machine.SequencerSteps.{moves}
-use Rattle.fdb_machine.specs.declared.step.Step.{Step}
-use Rattle.fdb_machine.specs.declared.step.Step.TheVariants as step
+use Rattle.fdb_machine.specs.machine.AnyStep.{Step}
+use Rattle.fdb_machine.specs.declared.step.AnyStep.TheVariants as step
 use Rattle.fdb_machine.specs.declared.step.Answered.{Answered}
 
 abbrev pub next : Machine → Step → Result Transition Refusal

@@ -10,7 +10,7 @@ use Rattle.fdb_machine.specs.machine.Failures.{State, FailsIn, none_failed, uses
 use Rattle.fdb_machine.specs.machine.Machine.{Machine, Transition}
 use Rattle.fdb_machine.specs.machine.Steps.{next, answer_of, after}
 use Rattle.fdb_machine.specs.declared.step.Answered.{Answered}
-use Rattle.fdb_machine.specs.declared.step.Step.{Step}
+use Rattle.fdb_machine.specs.machine.AnyStep.{Step}
 
 -- a commit proxy without a batch, at which nobody waits
 abbrev pub idle_proxy : CommitProxy

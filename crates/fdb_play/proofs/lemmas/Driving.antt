@@ -4,8 +4,8 @@ use Rattle.std.proofs.Common.{Err, inl, inr, arith}
 use Rattle.fdb_keys.specs.declared.refusal.Refusal.{Refusal}
 use Rattle.fdb_machine.specs.declared.in_flight.InFlight.{InFlight}
 use Rattle.fdb_machine.specs.declared.step.Answered.{Answered}
-use Rattle.fdb_machine.specs.declared.step.Step.{Step}
-use Rattle.fdb_machine.specs.declared.step.Step.TheVariants.{Decide, Report, Answer}
+use Rattle.fdb_machine.specs.machine.AnyStep.{Step}
+use Rattle.fdb_machine.specs.declared.step.AnyStep.TheVariants.{Decide, Report, Answer}
 use Rattle.fdb_machine.specs.machine.Failures.{State}
 use Rattle.fdb_machine.specs.machine.Worlds.{IsStep}
 use Rattle.fdb_play.specs.play.Driving.{AreAccepted, AreRefused, DrivesWhole, for_each, log_steps, resolver_steps}

@@ -3,7 +3,7 @@ use Rattle.std.proofs.Common.{◌≡◌, ◌≢◌, ◌+◌, ◌*◌, ◌==◌, 
 use Rattle.std.proofs.Common.{sym, subst, ◌∙◌, if◌then◌else◌, codes}
 use Rattle.std.specs.Cmp.Lexicographic.{bytes_decides}
 use Rattle.std.proofs.lemmas.Bool.{both_ways}
-use Rattle.fdb_machine.specs.declared.step.Step.{Step}
+use Rattle.fdb_machine.specs.machine.AnyStep.{Step}
 use Rattle.fdb_keys.specs.declared.refusal.Refusal.{Refusal}
 use Rattle.fdb_play.specs.script.Faults.{Reads}
 use Rattle.fdb_play.specs.script.Grammar.{WritesSmall, WritesOne, WritesNumberAnd, WritesRest, WritesStep, WritesLine}

@@ -3,8 +3,8 @@ use Rattle.std.specs.Prelude.{◌≡◌, ℕ, zero, suc, List, [], ◌∷◌, �
 use Rattle.fdb_keys.specs.declared.refusal.Refusal.{Refusal}
 use Rattle.fdb_machine.specs.declared.in_flight.InFlight.{InFlight}
 use Rattle.fdb_machine.specs.declared.step.Answered.{Answered}
-use Rattle.fdb_machine.specs.declared.step.Step.{Step}
-use Rattle.fdb_machine.specs.declared.step.Step.TheVariants.{Resolve, Verdict, Decide, Push, Logged, Report, Answer}
+use Rattle.fdb_machine.specs.machine.AnyStep.{Step}
+use Rattle.fdb_machine.specs.declared.step.AnyStep.TheVariants.{Resolve, Verdict, Decide, Push, Logged, Report, Answer}
 use Rattle.fdb_machine.specs.machine.InFlight.{in_flight}
 use Rattle.fdb_machine.specs.machine.Failures.{State}
 use Rattle.fdb_machine.specs.machine.Worlds.{IsStep}

@@ -8,7 +8,7 @@ use Rattle.fdb_keys.specs.declared.refusal.Refusal.TheVariants.{NoMemory}
 use Rattle.fdb_proxy.specs.declared.config.Config.{Config}
 use Rattle.fdb_proxy.specs.Configs.{config_fault}
 use Rattle.fdb_machine.specs.declared.step.Answered.{Answered}
-use Rattle.fdb_machine.specs.declared.step.Step.{Step}
+use Rattle.fdb_machine.specs.machine.AnyStep.{Step}
 use Rattle.fdb_machine.specs.machine.Failures.{State}
 use Rattle.fdb_machine.specs.machine.Worlds.{IsStep, first_state}
 use Rattle.fdb_print.specs.Stops.{refused_line, printed_line, bad_line, stop_text}

@@ -2,7 +2,7 @@
 
 use crate::script::operation::Operation;
 use bytes::Bytes;
-use fdb_core::{Answered, Step, World};
+use fdb_core::{Answered, AnyStep, Step, World};
 use fdb_keys::{Key, KeyRange, Refusal};
 use fdb_mutations::Mutation;
 use std::alloc::Global;
@@ -38,119 +38,36 @@ pub enum Change {
     },
 }
 
-/// A step by its numbers, as `Step` has it. A key is named by the number at its end; any number from 8 on names a text
-/// that is no legal key, but a bound after all keys.
-#[derive(Clone, Copy)]
-pub enum Act {
-    Ask {
-        session: u32,
-        proxy: u32,
-    },
-    Grant {
-        proxy: u32,
-    },
-    Get {
-        session: u32,
-        key: u32,
-        snapshot: bool,
-    },
-    GetRange {
-        session: u32,
-        span: Span,
-        limit: u32,
-        reverse: bool,
-        snapshot: bool,
-    },
-    Write {
-        session: u32,
-        change: Change,
-    },
-    AddRead {
-        session: u32,
-        span: Span,
-    },
-    AddWrite {
-        session: u32,
-        span: Span,
-    },
-    Submit {
-        session: u32,
-        proxy: u32,
-    },
-    Seal {
-        proxy: u32,
-        advance: u64,
-    },
-    Resolve {
-        entry: u32,
-        resolver: u32,
-    },
-    Verdict {
-        entry: u32,
-        resolver: u32,
-    },
-    Decide {
-        proxy: u32,
-    },
-    Push {
-        entry: u32,
-        log: u32,
-    },
-    Logged {
-        entry: u32,
-        log: u32,
-    },
-    Report {
-        proxy: u32,
-    },
-    Answer {
-        proxy: u32,
-    },
-    Pull {
-        shard: u32,
-        limit: u32,
-    },
-    Forget {
-        shard: u32,
-        version: u64,
-    },
-    Pop {
-        shard: u32,
-    },
-    Move {
-        span: Span,
-        to: u32,
-    },
-}
+/// A step by its numbers. A key is named by the number at its end; any number from 8 on names a text that is no legal
+/// key, but a bound after all keys.
+pub type Act = AnyStep<u32, Span, Change>;
 
 /// How many kinds of steps there are.
 pub const KINDS: usize = 20;
 
-impl Act {
-    /// The place of the step's kind among all kinds, in the order of `Act`.
-    pub fn kind(self) -> usize {
-        match self {
-            Act::Ask { .. } => 0,
-            Act::Grant { .. } => 1,
-            Act::Get { .. } => 2,
-            Act::GetRange { .. } => 3,
-            Act::Write { .. } => 4,
-            Act::AddRead { .. } => 5,
-            Act::AddWrite { .. } => 6,
-            Act::Submit { .. } => 7,
-            Act::Seal { .. } => 8,
-            Act::Resolve { .. } => 9,
-            Act::Verdict { .. } => 10,
-            Act::Decide { .. } => 11,
-            Act::Push { .. } => 12,
-            Act::Logged { .. } => 13,
-            Act::Report { .. } => 14,
-            Act::Answer { .. } => 15,
-            Act::Pull { .. } => 16,
-            Act::Forget { .. } => 17,
-            Act::Pop { .. } => 18,
-            Act::Move { .. } => 19,
-        }
+/// The place of the step's kind among all kinds, in the order of `Act`.
+pub fn kind_of(act: Act) -> usize {
+    match act {
+        Act::Ask { .. } => 0,
+        Act::Grant { .. } => 1,
+        Act::Get { .. } => 2,
+        Act::GetRange { .. } => 3,
+        Act::Write { .. } => 4,
+        Act::AddRead { .. } => 5,
+        Act::AddWrite { .. } => 6,
+        Act::Submit { .. } => 7,
+        Act::Seal { .. } => 8,
+        Act::Resolve { .. } => 9,
+        Act::Verdict { .. } => 10,
+        Act::Decide { .. } => 11,
+        Act::Push { .. } => 12,
+        Act::Logged { .. } => 13,
+        Act::Report { .. } => 14,
+        Act::Answer { .. } => 15,
+        Act::Pull { .. } => 16,
+        Act::Forget { .. } => 17,
+        Act::Pop { .. } => 18,
+        Act::Move { .. } => 19,
     }
 }
 
@@ -265,7 +182,7 @@ fn take_keyed(world: &mut World, alloc: Global, act: Act) -> Result<Answered, Re
         } => get(world, alloc, session, key, snapshot),
         Act::GetRange {
             session,
-            span,
+            range: span,
             limit,
             reverse,
             snapshot,
@@ -279,10 +196,10 @@ fn take_keyed(world: &mut World, alloc: Global, act: Act) -> Result<Answered, Re
                 snapshot,
             })
         }
-        Act::Write { session, change } => write(world, alloc, session, change),
-        Act::AddRead { session, span } => add_read(world, alloc, session, span),
-        Act::AddWrite { session, span } => add_write(world, alloc, session, span),
-        Act::Move { span, to } => move_to(world, alloc, span, to),
+        Act::Write { session, mutation } => write(world, alloc, session, mutation),
+        Act::AddRead { session, range } => add_read(world, alloc, session, range),
+        Act::AddWrite { session, range } => add_write(world, alloc, session, range),
+        Act::Move { range, to } => move_to(world, alloc, range, to),
         _ => Err(Refusal::Unknown),
     }
 }

@@ -213,22 +213,22 @@ impl Drawing {
             },
             3 => Act::GetRange {
                 session,
-                span: self.span(),
+                range: self.span(),
                 limit: self.below(4),
                 reverse: self.rarely(2),
                 snapshot: self.rarely(4),
             },
             4 if self.rarely(2) => Act::AddRead {
                 session,
-                span: self.span(),
+                range: self.span(),
             },
             4 => Act::AddWrite {
                 session,
-                span: self.span(),
+                range: self.span(),
             },
             _ => Act::Write {
                 session,
-                change: self.change(),
+                mutation: self.change(),
             },
         }
     }
@@ -353,7 +353,7 @@ impl Drawing {
             2 => Act::Report { proxy },
             3 => Act::Answer { proxy },
             _ => Act::Move {
-                span: self.span(),
+                range: self.span(),
                 to: self.some_of(RESOLVERS),
             },
         }

@@ -1,5 +1,5 @@
 // What the steps of a run were answered, in numbers. No count of a run is above the number of its steps.
-use crate::random::acts::{Act, KINDS};
+use crate::random::acts::{Act, KINDS, kind_of};
 use fdb_core::{Answered, Outcome};
 use fdb_keys::Refusal;
 
@@ -25,7 +25,7 @@ pub struct Tally {
     pub conflicting: u32,
     /// How many were answered that they are too old.
     pub old: u32,
-    /// How many steps of each kind were accepted, where `Act::kind` gives the kinds.
+    /// How many steps of each kind were accepted, where `kind_of` gives the kinds.
     pub accepted: [u32; KINDS],
     /// How many steps were refused with each code, in the order of `CODES`.
     pub refusals: [u32; REFUSALS],
@@ -49,7 +49,7 @@ impl Tally {
     pub(crate) fn note(&mut self, act: Act, answer: &Result<Answered, Refusal>) {
         match answer {
             Ok(answered) => {
-                raise_at(self.accepted.as_mut_slice(), act.kind());
+                raise_at(self.accepted.as_mut_slice(), kind_of(act));
                 self.note_answered(answered);
             }
             Err(why) => self.note_refusal(*why),

@@ -29,8 +29,8 @@ use Rattle.fdb_core.proofs.refinement.StepLemmas.{IsKept, accepted, kept}
 use Rattle.fdb_core.specs.declared.cluster.Cluster.{Cluster}
 use Rattle.fdb_roles.specs.declared.placed.Placed.{Placed}
 use Rattle.fdb_machine.specs.declared.step.Answered.TheVariants as answered
-use Rattle.fdb_machine.specs.declared.step.Step.{Step}
-use Rattle.fdb_machine.specs.declared.step.Step.TheVariants as step
+use Rattle.fdb_machine.specs.machine.AnyStep.{Step}
+use Rattle.fdb_machine.specs.declared.step.AnyStep.TheVariants as step
 
 -- an open transaction with one more operation reads within the same version
 pub opened-with_op : (committed : ℕ) (sessions : Sessions) (session : ℕ) (transcript : Transcript) (op : Op)

@@ -27,7 +27,7 @@ use Rattle.fdb_machine.specs.declared.step.Answered.TheVariants as answered
 use Rattle.fdb_machine.specs.invariant.Invariant.{Invariant}
 use Rattle.fdb_machine.specs.machine.ClientSteps.{submits}
 use Rattle.fdb_roles.specs.Sessions.{submit_fault, OfOpen, Finishes}
-use Rattle.fdb_machine.specs.declared.step.Step.TheVariants as step
+use Rattle.fdb_machine.specs.declared.step.AnyStep.TheVariants as step
 use Rattle.fdb_machine.specs.machine.Failures.{Failures, submits_failed, uses_failed}
 use Rattle.fdb_machine.specs.machine.Machine.{Machine, is_set}
 use Rattle.fdb_machine.specs.machine.Roles.{CommitProxy}

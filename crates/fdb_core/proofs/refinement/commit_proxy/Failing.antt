@@ -13,7 +13,7 @@ use Rattle.fdb_core.specs.declared.roles.log.LogRole.{LogRole}
 use Rattle.fdb_core.specs.declared.roles.resolver.ResolverRole.{ResolverRole}
 use Rattle.fdb_core.specs.declared.roles.shard.ShardRole.{ShardRole}
 use Rattle.fdb_machine.specs.declared.step.Answered.{Answered}
-use Rattle.fdb_machine.specs.declared.step.Step.{Step}
+use Rattle.fdb_machine.specs.machine.AnyStep.{Step}
 use Rattle.fdb_machine.specs.machine.CommitProxySteps.{seals, decides, reports, answers, is_idle, is_resolving}
 use Rattle.fdb_machine.specs.machine.CommitProxySteps.{is_logging, is_reported}
 use Rattle.fdb_machine.specs.machine.Failures.{tells_failed, uses_failed, unless_failed}

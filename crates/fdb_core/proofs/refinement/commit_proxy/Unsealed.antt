@@ -9,7 +9,7 @@ use Rattle.fdb_sequencer.specs.declared.ticket.Ticket.{Ticket}
 use Rattle.fdb_proxy.specs.CommitProxies.{CommitProxy as Core, HasFailed, sealing, is_idle as has_no_batch}
 use Rattle.fdb_core.specs.declared.cluster.Cluster.{Cluster}
 use Rattle.fdb_core.specs.declared.roles.commit_proxy.CommitProxyRole.{CommitProxyRole}
-use Rattle.fdb_machine.specs.declared.step.Step.TheVariants as step
+use Rattle.fdb_machine.specs.declared.step.AnyStep.TheVariants as step
 use Rattle.fdb_core.specs.refinement.Cluster.{machine_of, Refines, CommitProxiesRefine}
 use Rattle.fdb_core.specs.refinement.Restoring.{Tied, failures_of, proxy_failed}
 use Rattle.fdb_core.specs.refinement.Steps.{LeftOrFailed}

@@ -15,7 +15,7 @@ use Rattle.fdb_resolver.specs.Rule.{AreVerdicts, versions_with}
 use Rattle.fdb_resolver.specs.Resolvers.{Resolver, HasFailed, IsAnswer}
 use Rattle.fdb_core.specs.declared.cluster.Cluster.{Cluster}
 use Rattle.fdb_core.specs.declared.roles.resolver.ResolverRole.{ResolverRole}
-use Rattle.fdb_machine.specs.declared.step.Step.TheVariants as step
+use Rattle.fdb_machine.specs.declared.step.AnyStep.TheVariants as step
 use Rattle.fdb_machine.specs.machine.Machine.{Machine}
 use Rattle.fdb_machine.specs.machine.RoleSteps.{resolves}
 use Rattle.fdb_core.specs.refinement.Cluster.{machine_of, Refines}

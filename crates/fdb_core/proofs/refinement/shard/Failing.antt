@@ -5,7 +5,7 @@ use Rattle.std.specs.Vec.{with_item}
 use Rattle.fdb_storage.specs.Shards.{Shard, HasFailed}
 use Rattle.fdb_core.specs.declared.cluster.Cluster.{Cluster}
 use Rattle.fdb_core.specs.declared.roles.shard.ShardRole.{ShardRole}
-use Rattle.fdb_machine.specs.declared.step.Step.TheVariants as step
+use Rattle.fdb_machine.specs.declared.step.AnyStep.TheVariants as step
 use Rattle.fdb_machine.specs.machine.Roles.{ShardProgress}
 use Rattle.fdb_core.specs.refinement.Cluster.{machine_of}
 use Rattle.fdb_core.specs.refinement.Restoring.{Tied, failures_of, shard_failed}

@@ -1,6 +1,6 @@
 use Rattle.std.proofs.Common.{◌≡◌, ◌∙◌, sym, ap, ◌+◌, ◌<◌, ◌≤◌, length, [], ◌∷◌, ◌++◌, take, List, subst, rules}
 use Rattle.std.proofs.lemmas.List.{take_all, take_more}
-use Rattle.fdb_machine.specs.declared.step.Step.{Step}
+use Rattle.fdb_machine.specs.machine.AnyStep.{Step}
 use Rattle.fdb_machine.specs.headline.Traces.{IsTraceOf}
 use Rattle.fdb_proxy.specs.Configs.{config_fault}
 use Rattle.fdb_machine.specs.machine.Worlds.{first_state}

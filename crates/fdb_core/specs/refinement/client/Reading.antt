@@ -4,8 +4,8 @@ use Rattle.fdb_client.specs.declared.program.Op.{Op}
 use Rattle.fdb_client.specs.declared.program.Op.TheVariants as op
 use Rattle.fdb_core.specs.declared.roles.client.read.Read.{Read}
 use Rattle.fdb_core.specs.declared.roles.client.read.Read.TheVariants as read
-use Rattle.fdb_machine.specs.declared.step.Step.{Step}
-use Rattle.fdb_machine.specs.declared.step.Step.TheVariants as step
+use Rattle.fdb_machine.specs.machine.AnyStep.{Step}
+use Rattle.fdb_machine.specs.declared.step.AnyStep.TheVariants as step
 
 abbrev pub operation_of : Read → Bool → Op
 operation_of (read.Key key) snapshot = op.Get key.now snapshot

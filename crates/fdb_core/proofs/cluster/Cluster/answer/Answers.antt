@@ -11,7 +11,7 @@ use Rattle.fdb_proxy.specs.declared.outcome.Outcome.{Outcome}
 use Rattle.fdb_core.specs.declared.cluster.Cluster.{Cluster}
 use Rattle.fdb_roles.specs.declared.placed.Placed.{Placed}
 use Rattle.fdb_machine.specs.declared.step.Answered.TheVariants as answered
-use Rattle.fdb_machine.specs.declared.step.Step.TheVariants as step
+use Rattle.fdb_machine.specs.declared.step.AnyStep.TheVariants as step
 use Rattle.fdb_machine.specs.machine.Machine.{is_set}
 use Rattle.fdb_machine.specs.machine.CommitProxySteps.{is_idle, placed_from}
 use Rattle.fdb_machine.specs.machine.Sessions.{EachOpen, Sessions, tell_all}

@@ -3,7 +3,7 @@ use Rattle.std.proofs.Common.{slice_set, rules}
 use Rattle.std.specs.List.{AllByRecursion}
 use Rattle.std.specs.Vec.{with_item}
 use Rattle.fdb_proxy.specs.Askers.{Asker}
-use Rattle.fdb_machine.specs.declared.step.Step.TheVariants as step
+use Rattle.fdb_machine.specs.declared.step.AnyStep.TheVariants as step
 use Rattle.fdb_machine.specs.machine.Sessions.{Sessions, Asking}
 use Rattle.fdb_core.specs.refinement.Cluster.{machine_of, HasSeenNone, sessions_of}
 use Rattle.fdb_core.specs.refinement.commit_proxy.Ties.{ReadsWithin}

@@ -1,6 +1,6 @@
 use Rattle.std.proofs.Common.{◌≡◌, ◌∙◌, refl, sym, ap, ◌<◌, length, false, Some, Err, slice_get, rules}
 use Rattle.fdb_core.specs.declared.roles.commit_proxy.CommitProxyRole.{CommitProxyRole}
-use Rattle.fdb_machine.specs.declared.step.Step.TheVariants as step
+use Rattle.fdb_machine.specs.declared.step.AnyStep.TheVariants as step
 use Rattle.fdb_machine.specs.machine.Machine.{is_set}
 use Rattle.fdb_machine.specs.machine.Steps.{ran_out}
 use Rattle.fdb_core.specs.refinement.Restoring.{failures_of, proxy_failed}

@@ -1,6 +1,6 @@
 use Rattle.std.proofs.Common.{◌≡◌, ◌∙◌, refl, sym, ap, Err, rules}
 use Rattle.std.specs.Prelude.{⊤}
-use Rattle.fdb_machine.specs.declared.step.Step.TheVariants as step
+use Rattle.fdb_machine.specs.declared.step.AnyStep.TheVariants as step
 use Rattle.fdb_machine.specs.machine.Roles.{FromLog}
 use Rattle.fdb_core.specs.refinement.Cluster.{machine_of}
 use Rattle.fdb_core.specs.refinement.commit_proxy.Ties.{known_to, seen_as}

@@ -1,7 +1,7 @@
 use Rattle.std.proofs.Common.{◌≡◌, refl, subst, Err, rules}
 use Rattle.fdb_keys.specs.Ranges.{Range}
 use Rattle.fdb_sequencer.specs.Sequencer.{move_fault}
-use Rattle.fdb_machine.specs.declared.step.Step.TheVariants as step
+use Rattle.fdb_machine.specs.declared.step.AnyStep.TheVariants as step
 use Rattle.fdb_core.specs.refinement.Cluster.{machine_of}
 use Rattle.fdb_machine.specs.machine.SequencerSteps.{moves}
 use Rattle.fdb_machine.proofs.Exports.{unless-fault}

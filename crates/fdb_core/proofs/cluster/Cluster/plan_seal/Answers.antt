@@ -4,7 +4,7 @@ use Rattle.fdb_keys.specs.declared.refusal.Refusal.TheVariants.{BookFull, WrongS
 use Rattle.fdb_sequencer.specs.declared.ticket.Ticket.{Ticket}
 use Rattle.fdb_sequencer.specs.Sequencer.{plan_fault, planned}
 use Rattle.fdb_proxy.specs.CommitProxies.{is_idle as has_no_batch}
-use Rattle.fdb_machine.specs.declared.step.Step.TheVariants as step
+use Rattle.fdb_machine.specs.declared.step.AnyStep.TheVariants as step
 use Rattle.fdb_machine.specs.machine.CommitProxySteps.{is_idle}
 use Rattle.fdb_machine.specs.machine.Machine.{is_set}
 use Rattle.fdb_core.specs.refinement.Restoring.{failures_of, proxy_failed}

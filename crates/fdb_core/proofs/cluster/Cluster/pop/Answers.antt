@@ -3,7 +3,7 @@ use Rattle.std.specs.Vec.{with_item}
 use Rattle.fdb_log.specs.Logs.{tag_fault, HasPopped}
 use Rattle.fdb_core.specs.declared.roles.log.LogRole.{LogRole}
 use Rattle.fdb_core.specs.declared.roles.shard.ShardRole.{ShardRole}
-use Rattle.fdb_machine.specs.declared.step.Step.TheVariants as step
+use Rattle.fdb_machine.specs.declared.step.AnyStep.TheVariants as step
 use Rattle.fdb_machine.specs.machine.Roles.{ShardProgress}
 use Rattle.fdb_core.specs.refinement.Cluster.{machine_of}
 use Rattle.fdb_core.specs.refinement.Restoring.{failures_of, log_failed, shard_failed}

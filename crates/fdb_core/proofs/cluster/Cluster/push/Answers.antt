@@ -5,7 +5,7 @@ use Rattle.std.specs.Vec.{with_item}
 use Rattle.fdb_log.specs.declared.message.LogMsg.{LogMsg}
 use Rattle.fdb_log.specs.Logs.{HasFailed, push_fault}
 use Rattle.fdb_core.specs.declared.roles.log.LogRole.{LogRole}
-use Rattle.fdb_machine.specs.declared.step.Step.TheVariants as step
+use Rattle.fdb_machine.specs.declared.step.AnyStep.TheVariants as step
 use Rattle.fdb_keys.specs.declared.refusal.Refusal.TheVariants.{Unknown}
 use Rattle.fdb_machine.specs.machine.RoleSteps.{pushes}
 use Rattle.fdb_core.specs.refinement.Cluster.{machine_of}

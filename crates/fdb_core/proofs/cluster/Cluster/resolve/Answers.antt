@@ -1,7 +1,7 @@
 use Rattle.std.specs.Vec.{with_item}
 use Rattle.std.proofs.Common.{◌≡◌, ◌∙◌, sym, ap, refl, Bool, List, ◌<◌, length, Some, slice_get, arith, rules}
 use Rattle.fdb_core.specs.declared.roles.resolver.ResolverRole.{ResolverRole}
-use Rattle.fdb_machine.specs.declared.step.Step.TheVariants as step
+use Rattle.fdb_machine.specs.declared.step.AnyStep.TheVariants as step
 use Rattle.fdb_core.specs.refinement.Cluster.{machine_of}
 use Rattle.fdb_core.specs.refinement.Restoring.{failures_of, resolver_failed}
 use Rattle.fdb_roles.proofs.Exports.{within-item, read-there, map-at}

@@ -5,7 +5,7 @@ use Rattle.fdb_txn.specs.declared.spot.Spot.TheVariants as spot
 use Rattle.fdb_client.specs.declared.program.Transcript.{Transcript}
 use Rattle.fdb_roles.specs.declared.placed.Placed.{Placed}
 use Rattle.fdb_machine.specs.declared.step.Answered.TheVariants as answered
-use Rattle.fdb_machine.specs.declared.step.Step.TheVariants as step
+use Rattle.fdb_machine.specs.declared.step.AnyStep.TheVariants as step
 use Rattle.fdb_machine.specs.invariant.Invariant.{Invariant}
 use Rattle.fdb_machine.specs.machine.Failures.{uses_failed}
 use Rattle.fdb_machine.specs.machine.Sessions.{Idle, Waiting}

@@ -5,7 +5,7 @@ use Rattle.fdb_keys.specs.declared.refusal.Refusal.TheVariants.{NoMemory}
 use Rattle.fdb_proxy.specs.Configs.{config_fault}
 use Rattle.fdb_core.specs.declared.cluster.Cluster.{Cluster}
 use Rattle.fdb_machine.specs.declared.step.Answered.{Answered}
-use Rattle.fdb_machine.specs.declared.step.Step.{Step}
+use Rattle.fdb_machine.specs.machine.AnyStep.{Step}
 use Rattle.fdb_machine.specs.headline.Serving.{System}
 use Rattle.fdb_machine.specs.invariant.Invariant.{Invariant}
 use Rattle.fdb_machine.specs.machine.Machine.{Machine}

@@ -1,6 +1,6 @@
 use Rattle.std.proofs.Common.{inl}
 use Rattle.std.proofs.lemmas.Result.{err_from_is_err_and}
-use Rattle.fdb_machine.specs.declared.step.Step.TheVariants.{Decide, Report}
+use Rattle.fdb_machine.specs.declared.step.AnyStep.TheVariants.{Decide, Report}
 use Rattle.fdb_play.proofs.lemmas.Driving.{one_accepted, refused_first, refused_second, refused_third, refused_fourth}
 use Rattle.fdb_play.proofs.lemmas.Driving.{answered_last}
 use Rattle.fdb_play.proofs.play.driving.drive_whole.Goals as goal

@@ -1,5 +1,5 @@
 use Rattle.std.proofs.lemmas.Result.{err_from_is_err_and}
-use Rattle.fdb_machine.specs.declared.step.Step.TheVariants.{Push, Logged}
+use Rattle.fdb_machine.specs.declared.step.AnyStep.TheVariants.{Push, Logged}
 use Rattle.fdb_play.proofs.lemmas.Driving.{second_refused}
 use Rattle.fdb_play.proofs.play.driving.log_at.Goals as goal
 

@@ -1,7 +1,7 @@
 use Rattle.std.proofs.Common.{ℕ, List, ◌∷◌, refl}
 use Rattle.std.proofs.lemmas.Result.{err_from_is_err_and}
-use Rattle.fdb_machine.specs.declared.step.Step.{Step}
-use Rattle.fdb_machine.specs.declared.step.Step.TheVariants as made
+use Rattle.fdb_machine.specs.machine.AnyStep.{Step}
+use Rattle.fdb_machine.specs.declared.step.AnyStep.TheVariants as made
 use Rattle.fdb_play.specs.declared.script.fault.Fault.{Fault}
 use Rattle.fdb_play.specs.declared.script.keys.RangeTarget.{RangeTarget}
 use Rattle.fdb_play.specs.declared.script.step_line.Kind.TheVariants.{Move}

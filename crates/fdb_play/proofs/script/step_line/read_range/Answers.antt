@@ -1,6 +1,6 @@
 use Rattle.std.proofs.Common.{refl}
 use Rattle.std.proofs.lemmas.Result.{err_from_is_err_and}
-use Rattle.fdb_machine.specs.declared.step.Step.TheVariants as made
+use Rattle.fdb_machine.specs.declared.step.AnyStep.TheVariants as made
 use Rattle.fdb_play.specs.declared.script.keys.RangeRead.{RangeRead}
 use Rattle.fdb_play.specs.script.Grammar.{WritesRangeRead, bounds_fault, step_fault}
 use Rattle.fdb_play.proofs.lemmas.Grammar.{number_fault}
