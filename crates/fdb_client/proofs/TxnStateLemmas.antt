@@ -1,5 +1,7 @@
 -- One operation more of what a transaction keeps.
-use Rattle.std.proofs.Common.{◌≡◌, ◌∙◌, sym, ap, ap₂, subst, Bool, true, not, ◌&&◌, List, [], ◌∷◌, ◌++◌, None}
+use Rattle.std.proofs.Common.{◌≡◌, ◌∙◌, ◌==◌, sym, ap, ap₂, subst, Bool, true, not, ◌&&◌, List, [], ◌∷◌, ◌++◌}
+use Rattle.std.proofs.Common.{length, None}
+use Rattle.std.proofs.Math.Dec.{eqb-suc-zero}
 use Rattle.std.specs.List.{AllByRecursion}
 use Rattle.std.specs.FinMap.{get}
 use Rattle.fdb_keys.specs.Points.{Point}
@@ -39,37 +41,42 @@ writes-push ops op own after writes new_writes are there keys cleared written = 
 
 module _ (ops : List (Op × Reply)) (done : Op × Reply) where
   -- and so what is kept of the operations
-  pub are-push : (own after : OwnWrites) (reads writes new_reads new_writes : List Range)
-      (mutations new_mutations : List Mutation) → AreOf ops own reads writes mutations
+  pub are-push : (own after : OwnWrites) (reads writes new_reads new_writes : List Range) (mutates now_mutates : Bool)
+      → AreOf ops own reads writes mutates
       → ((x : Point) → left_at after x ≡ left_by x (left_at own x) done.0)
       → HasLegalKeys after
       → AreClearedDecided after
       → new_reads ≡ add_reads (program ops) done.0 done.1 reads
       → new_writes ≡ add_writes done.0 writes
-      → new_mutations ≡ add_mutation done.0 mutations
-      → AllByRecursion (λ (mutation : Mutation). mutation_fault mutation ≡ None) new_mutations
-      → AreOf (ops ++ done ∷ []) after new_reads new_writes new_mutations
-  are-push own after reads writes new_reads new_writes mutations new_mutations are there keys cleared read written
-      added legal =
+      → not now_mutates ≡ (length (add_mutation done.0 (mutations_of (program ops))) == 0)
+      → AllByRecursion (λ (mutation : Mutation). mutation_fault mutation ≡ None)
+      (add_mutation done.0 (mutations_of (program ops)))
+      → AreOf (ops ++ done ∷ []) after new_reads new_writes now_mutates
+  are-push own after reads writes new_reads new_writes mutates now_mutates are there keys cleared read written
+      mutated legal =
       let pushed = sym (program-push ops done) in
       record {
         written = subst (λ (all : List Op). AreWritesOf all after new_writes) pushed
             (writes-push (program ops) done.0 own after writes new_writes are.written there keys cleared written);
         are_read = read ∙ ap (add_reads (program ops) done.0 done.1) are.are_read
             ∙ ap₂ read_ranges pushed (sym (replies-push ops done));
-        are_mutations = added ∙ ap (add_mutation done.0) are.are_mutations ∙ ap mutations_of pushed;
-        legal = legal;
+        unless_mutates = mutated ∙ ap (λ (all : List Op). length (mutations_of all) == 0) pushed;
+        legal = subst (λ (all : List Op).
+            AllByRecursion (λ (mutation : Mutation). mutation_fault mutation ≡ None) (mutations_of all)) pushed legal;
       }
 
   -- and with one that writes nothing, where the read set has what it reads
-  pub are-noted : (own : OwnWrites) (reads writes new_reads : List Range) (mutations : List Mutation)
-      → AreOf ops own reads writes mutations → WritesNothing done.0
+  pub are-noted : (own : OwnWrites) (reads writes new_reads : List Range) (mutates : Bool)
+      → AreOf ops own reads writes mutates → WritesNothing done.0
       → new_reads ≡ add_reads (program ops) done.0 done.1 reads
-      → AreOf (ops ++ done ∷ []) own new_reads writes mutations
-  are-noted own reads writes new_reads mutations are nothing read =
-      are-push own own reads writes new_reads writes mutations mutations are
+      → AreOf (ops ++ done ∷ []) own new_reads writes mutates
+  are-noted own reads writes new_reads mutates are nothing read =
+      let same = sym (nothing.2 (mutations_of (program ops))) in
+      are-push own own reads writes new_reads writes mutates mutates are
       (λ x. sym (nothing.0 x (left_at own x))) are.written.legal_keys are.written.cleared_decided read
-      (sym (nothing.1 writes)) (sym (nothing.2 mutations)) are.legal
+      (sym (nothing.1 writes))
+      (are.unless_mutates ∙ ap (λ (mutations : List Mutation). length mutations == 0) same)
+      (subst (AllByRecursion (λ (mutation : Mutation). mutation_fault mutation ≡ None)) same are.legal)
 
 module _ (ops : List Op) (own : OwnWrites) (writes : List Range) (are : AreWritesOf ops own writes) (key : Point) where
   -- the writes that are kept decide a key exactly where the operations do
@@ -99,3 +106,9 @@ pub legal-push : (mutations : List Mutation) (mutation : Mutation)
     → AllByRecursion (λ (one : Mutation). mutation_fault one ≡ None) (mutations ++ mutation ∷ [])
 legal-push [] mutation legal faultless = (faultless, tt)
 legal-push (first ∷ mutations) mutation legal faultless = (legal.0, legal-push mutations mutation legal.1 faultless)
+
+-- which then aren't none
+pub pushed-not-empty : (mutations : List Mutation) (mutation : Mutation)
+    → not true ≡ (length (mutations ++ mutation ∷ []) == 0)
+pushed-not-empty [] mutation = sym (eqb-suc-zero 0)
+pushed-not-empty (first ∷ mutations) mutation = sym (eqb-suc-zero (length (mutations ++ mutation ∷ [])))

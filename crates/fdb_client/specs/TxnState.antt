@@ -1,5 +1,5 @@
 -- How what a transaction keeps is tied to its operations.
-use Rattle.std.specs.Prelude.{◌≡◌, List, [], ◌∷◌, ◌++◌, None}
+use Rattle.std.specs.Prelude.{◌≡◌, ◌==◌, Bool, not, List, [], ◌∷◌, ◌++◌, length, None}
 use Rattle.std.specs.List.{AllByRecursion}
 use Rattle.fdb_keys.specs.Points.{Point}
 use Rattle.fdb_keys.specs.Ranges.{Range}
@@ -35,14 +35,13 @@ pub record AreWritesOf (ops : List Op) (own : OwnWrites) (writes : List Range) :
   pub cleared_decided : AreClearedDecided own
   pub are_written : writes ≡ write_ranges ops
 
--- what is kept of the operations: what is kept of their writes, the read set, and the mutations, each of which is a
--- legal one
-pub record AreOf (ops : List (Op × Reply)) (own : OwnWrites) (reads writes : List Range)
-    (mutations : List Mutation) : Type 0 where
+-- what is kept of the operations: what is kept of their writes, the read set, and whether they have a mutation; each of
+-- these is a legal one
+pub record AreOf (ops : List (Op × Reply)) (own : OwnWrites) (reads writes : List Range) (mutates : Bool) : Type 0 where
   pub written : AreWritesOf (program ops) own writes
   pub are_read : reads ≡ read_ranges (program ops) (replies_of ops)
-  pub are_mutations : mutations ≡ mutations_of (program ops)
-  pub legal : AllByRecursion (λ (mutation : Mutation). mutation_fault mutation ≡ None) mutations
+  pub unless_mutates : not mutates ≡ (length (mutations_of (program ops)) == 0)
+  pub legal : AllByRecursion (λ (mutation : Mutation). mutation_fault mutation ≡ None) (mutations_of (program ops))
 
 abbrev pub AreKept : TxnState → Type 0
-AreKept state = AreOf state.transcript.ops state.own state.reads state.writes state.mutations
+AreKept state = AreOf state.transcript.ops state.own state.reads state.writes state.mutates

@@ -1,34 +1,39 @@
-ghost use Rattle.std.specs.Prelude.{◌≡◌};
+ghost use Rattle.std.specs.Prelude.{◌≡◌, ◌++◌, [], None, IsTrue, OnOk, OnErr, take, length};
 ghost use Rattle.std.specs.List.{list_any};
+ghost use Rattle.fdb_keys.specs.Answers.{Answers};
+ghost use Rattle.fdb_keys.specs.Insertion.{with_ranges};
 ghost use Rattle.fdb_keys.specs.Points.{point_eq};
+ghost use Rattle.fdb_keys.specs.Ranges.{in_range, in_set, is_apart};
+ghost use Rattle.fdb_client.specs.Conflicts.{with_listed};
 
 use crate::own_writes::OwnWrites;
 use fdb_keys::{Items, Key, KeyRange, RangeSet, Refusal, TreeRangeSet};
 use fdb_mutations::Mutation;
-use std::alloc::Global;
+use std::alloc::{AllocError, Global};
 use std::marker::Model;
 
 /// What an open transaction reads or writes: a set of keys that grows by single keys and by ranges, seen as the
-/// shortest sorted list of ranges that hold it. A single key is only put down; the list is put together in `to_set`.
+/// shortest sorted list of ranges that hold it. What is added is only put down, which takes O(1) time for a key and for
+/// a range; the list is put together in `to_set`.
 #[derive(Drop)]
 pub struct ConflictSet {
     alloc: Global,
     // Keys in the order in which they were added, any of them more than once.
     keys: Items<Key>,
-    // What was added as ranges.
-    ranges: TreeRangeSet,
+    // Ranges in the order in which they were added, any of them more than once. None of them is empty.
+    ranges: Items<KeyRange>,
 }
 
 impl Model for ConflictSet {
-    ghost use Rattle.std.specs.Prelude.{List, IsTrue};
-    ghost use Rattle.fdb_keys.specs.Ranges.{Range, is_apart};
-    ghost use Rattle.fdb_client.specs.Conflicts.{with_keys};
+    ghost use Rattle.std.specs.Prelude.{List};
+    ghost use Rattle.fdb_keys.specs.Ranges.{Range};
+    ghost use Rattle.fdb_client.specs.Conflicts.{joined, HavePoints};
 
     ghost Value = { List Range };
 
-    ghost view = { λ set. with_keys set.keys set.ranges };
+    ghost view = { λ set. joined set.keys set.ranges };
 
-    ghost invariant = { λ set. IsTrue (is_apart set.ranges) };
+    ghost invariant = { λ set. HavePoints set.ranges };
 }
 
 impl ConflictSet {
@@ -48,7 +53,7 @@ impl ConflictSet {
         ConflictSet {
             alloc,
             keys: Items::new(alloc),
-            ranges: TreeRangeSet::new(alloc),
+            ranges: Items::new(alloc),
         }
     }
 
@@ -59,12 +64,12 @@ impl ConflictSet {
         self.keys.is_empty() && self.ranges.is_empty()
     }
 
-    /// Whether the key lies in the set. It takes no memory, and O(n) time for n keys that were added alone.
+    /// Whether the key lies in the set. It takes no memory, and O(n) time for n keys and ranges that were added.
     pub fn contains(&self, key: &Key) -> bool
         ensures value { result ≡ in_set self.now key.now }
         ensures apart { IsTrue (is_apart self.now) }
     {
-        has(self.keys.as_slice(), key) || self.ranges.contains(key)
+        has(self.keys.as_slice(), key) || lies_in(self.ranges.as_slice(), key)
     }
 
     /// The ranges of the set: sorted, none touching the next, and none empty. It takes O(n log n) comparisons of bounds
@@ -72,7 +77,7 @@ impl ConflictSet {
     pub fn to_set(&self, alloc: Global) -> Result<RangeSet, Refusal>
         ensures { Answers result None (λ set. set ≡ self.now) }
     {
-        let mut set = self.ranges.to_set(alloc)?;
+        let mut set = set_of(alloc, &self.ranges)?;
         if !self.keys.is_empty() {
             set.add_all(KeyRange::singles(alloc, self.keys.as_slice())?)?;
         }
@@ -94,15 +99,21 @@ impl ConflictSet {
         ensures answers { Answers result None (λ _. self.new ≡ with_range range.now self.old) }
         ensures err { OnErr result (self.new ≡ self.old) }
     {
-        self.ranges.add(range)
+        push(&mut self.ranges, range)?;
+        Ok(())
     }
 
-    // Adds the keys of all the ranges. Where memory runs out, nothing changes.
+    // Adds the keys of all the ranges. Where memory runs out, nothing changes. It takes O(n) time for n ranges.
     pub(crate) fn add_all(&mut self, ranges: &RangeSet) -> Result<(), Refusal>
         ensures answers { Answers result None (λ _. self.new ≡ with_ranges ranges.now self.old) }
         ensures err { OnErr result (self.new ≡ self.old) }
     {
-        self.ranges.add_all(ranges)
+        let count = self.ranges.len();
+        if let Err(why) = push_all(&mut self.ranges, ranges) {
+            self.ranges.truncate(count);
+            return Err(why.into());
+        }
+        Ok(())
     }
 
     // Adds the keys of the range to this set and to the other one, or to neither.
@@ -116,7 +127,13 @@ impl ConflictSet {
         ensures other { OnOk result (other.new ≡ with_range range.now other.old) }
         ensures other_err { OnErr result (other.new ≡ other.old) }
     {
-        TreeRangeSet::add_to_both(&mut self.ranges, other, range)
+        let count = self.ranges.len();
+        push(&mut self.ranges, range)?;
+        if let Err(why) = other.add(range) {
+            self.ranges.truncate(count);
+            return Err(why);
+        }
+        Ok(())
     }
 
     // Adds the key of a mutation, which joins the own writes. Where memory runs out, nothing changes.
@@ -154,4 +171,50 @@ fn has(keys: &[Key], key: &Key) -> bool
             ensures { result ≡ point_eq key.entry.now held.now }
         { key == held },
     )
+}
+
+// Whether the key lies in one of the ranges.
+fn lies_in(ranges: &[KeyRange], key: &Key) -> bool
+    ensures { result ≡ in_set ranges.now key.now }
+{
+    ranges.iter().any(
+        |range: &KeyRange| -> bool
+            ensures { result ≡ in_range range.now key.entry.now }
+        { range.contains(key) },
+    )
+}
+
+// Puts down a copy of the range, unless it is empty. Where memory runs out, nothing changes.
+fn push(list: &mut Items<KeyRange>, range: &KeyRange) -> Result<(), AllocError>
+    ensures ok { OnOk result (list.new ≡ with_listed range.now list.old) }
+    ensures err { OnErr result (list.new ≡ list.old) }
+{
+    if range.is_empty() {
+        return Ok(());
+    }
+    let copy = range.clone()?;
+    list.push(copy)?;
+    Ok(())
+}
+
+// Puts down copies of the ranges. Where memory runs out, some of them may be put down.
+fn push_all(list: &mut Items<KeyRange>, ranges: &RangeSet) -> Result<(), AllocError>
+    ensures ok { OnOk result (list.new ≡ list.old ++ ranges.now) }
+    ensures err { OnErr result (take (length list.old) list.new ≡ list.old) }
+    ensures apart { IsTrue (is_apart ranges.now) }
+{
+    for range in ranges.iter() {
+        list.push(range.clone()?)?;
+    }
+    Ok(())
+}
+
+// The set of the ranges.
+fn set_of(alloc: Global, ranges: &Items<KeyRange>) -> Result<RangeSet, Refusal>
+    ensures { Answers result None (λ set. set ≡ with_ranges ranges.now []) }
+{
+    let copies = ranges.clone()?.into_vec();
+    let mut set = RangeSet::new(alloc);
+    set.add_all(copies)?;
+    Ok(set)
 }

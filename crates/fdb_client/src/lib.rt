@@ -14,6 +14,7 @@ mod program;
 mod range_read;
 mod reading;
 mod request;
+mod sealing;
 mod snapshot;
 mod txn;
 mod txn_state;

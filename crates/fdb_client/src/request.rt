@@ -91,7 +91,7 @@ fn add_listed(mutations: &mut Items<Mutation>, op: &Op) -> Result<(), Refusal>
 }
 
 // The mutations of the operations.
-fn listed(alloc: Global, ops: &[(Op, Reply)]) -> Result<Items<Mutation>, Refusal>
+pub(crate) fn listed(alloc: Global, ops: &[(Op, Reply)]) -> Result<Items<Mutation>, Refusal>
     ensures { Answers result None (λ mutations. mutations ≡ mutations_of (program ops.now)) }
 {
     let mut mutations = Items::new(alloc);

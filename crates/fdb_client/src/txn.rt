@@ -6,7 +6,7 @@ use crate::txn_state::TxnState;
 use bytes::Bytes;
 use fdb_keys::{Items, Key, KeyRange, Refusal, Refused};
 use fdb_mutations::Mutation;
-use fdb_txn::TxnId;
+use fdb_txn::{Sealed, TxnId};
 use std::alloc::Global;
 use std::marker::Model;
 
@@ -32,19 +32,22 @@ impl Model for Txn {
 }
 
 impl Txn {
-    ghost use Rattle.std.specs.Prelude.{◌≡◌, true, [], None, IfOk, IsOk, OnOk, OnErr, if◌then◌else◌};
+    ghost use Rattle.std.specs.Prelude.{◌≡◌, ◌<◌, true, [], None, Err, IfOk, IfErr, IsOk, IsErr, OnErr, sum_by};
+    ghost use Rattle.std.specs.Prelude.{if◌then◌else◌};
     ghost use Rattle.std.specs.FinMap.{get};
     ghost use Rattle.fdb_keys.specs.Answers.{Answers, AnswersOrHandsBack};
     ghost use Rattle.fdb_keys.specs.Points.{Point};
     ghost use Rattle.fdb_keys.specs.Ranges.{in_set};
     ghost use Rattle.fdb_mutations.specs.Maps.{Map};
-    ghost use Rattle.fdb_mutations.specs.Mutations.{mutation_fault};
+    ghost use Rattle.fdb_keys.specs.declared.refusal.Refusal.TheVariants.{TransactionTooLarge};
+    ghost use Rattle.fdb_mutations.specs.Mutations.{mutation_fault, mutation_size};
     ghost use Rattle.fdb_mutations.specs.PairLaws.{given_of};
-    ghost use Rattle.fdb_client.specs.Finishing.{finish_fault, IsFinished};
+    ghost use Rattle.fdb_txn.specs.Limits.{size_limit};
+    ghost use Rattle.fdb_client.specs.Finishing.{finish_fault, AsksFor, IsFinished};
     ghost use Rattle.fdb_client.specs.TxnState.{with_op};
     ghost use Rattle.fdb_client.specs.ProgramLaws.{IsExecuted};
     ghost use Rattle.fdb_client.specs.Programs.{program, replies_of, copy, decided, read_set, write_set, read_ranges};
-    ghost use Rattle.fdb_client.specs.Programs.{write_ranges, is_read_only};
+    ghost use Rattle.fdb_client.specs.Programs.{mutations_of, write_ranges, is_read_only};
     ghost use Rattle.fdb_client.specs.declared.program.Op.TheVariants as operation;
     ghost use Rattle.fdb_client.specs.declared.program.Reply.TheVariants as answer;
 
@@ -197,13 +200,36 @@ impl Txn {
         self.state.is_read_only()
     }
 
+    /// What the transaction asks to commit: its id and its read version, its read set, its write set, and its mutations.
+    /// The transaction stays as it is, and open.
+    ///
+    /// Refused as `TransactionTooLarge` where that has more than 10,000,000 bytes, unless memory ran out before that was
+    /// known, and as `NoMemory`. Where the mutations alone have more, it is known without memory. It puts both sets
+    /// together, which takes O(n log n) comparisons of bounds for n operations and what their range reads read, and
+    /// copies each mutation, which shares its bytes.
+    pub fn request(&self) -> Result<Sealed, Refusal>
+        ensures answers { AsksFor self.now result }
+        ensures known { size_limit < sum_by mutation_size (mutations_of (program self.now.ops))
+            → result ≡ Err TransactionTooLarge }
+    {
+        self.state.request()
+    }
+
+    /// The id, the read version, and the operations with their replies, alone. It takes no memory.
+    pub fn into_transcript(self) -> Transcript
+        ensures { result ≡ self }
+    {
+        let Txn { state } = self;
+        state.into_transcript()
+    }
+
     /// What is left to do of it: nothing where it has no mutation and an empty write set, which takes no memory and is
-    /// never refused, and else to commit it. Refused as `TransactionTooLarge` where what is to be committed has more
-    /// than 10,000,000 bytes, unless memory ran out before that was known, and as `NoMemory`; a refusal hands the
-    /// transaction back. It puts both sets together, which takes O(n log n) comparisons of bounds for n operations and
-    /// what their range reads read.
+    /// never refused, and else to commit it. Refused as `request` is; a refusal hands the transaction back. It takes the
+    /// time of `request`.
     pub fn finish(self) -> Result<Finished, Refused<Txn>>
         ensures answers { AnswersOrHandsBack result self (finish_fault result self) (IsFinished self) }
+        ensures known { size_limit < sum_by mutation_size (mutations_of (program self.ops))
+            → IfErr result (λ refused. refused.why ≡ TransactionTooLarge) × IsErr result }
         ensures read_only { is_read_only self ≡ true → IsOk result }
     {
         let Txn { state } = self;

@@ -1,21 +1,20 @@
 // What a transaction keeps, and how each operation changes it.
-ghost use Rattle.std.specs.Prelude.{◌≡◌, All, true, not, ◌&&◌, [], ◌∷◌, ◌++◌, None, IfOk, IfErr, IsOk, OnOk, OnErr};
-ghost use Rattle.std.specs.Prelude.{if◌then◌else◌};
+ghost use Rattle.std.specs.Prelude.{◌≡◌, ◌<◌, true, not, ◌&&◌, [], ◌∷◌, ◌++◌, None, Err, IfOk, IfErr, IsOk, IsErr, OnOk};
+ghost use Rattle.std.specs.Prelude.{OnErr, sum_by, if◌then◌else◌};
 ghost use Rattle.std.specs.FinMap.{get};
 ghost use Rattle.std.specs.Option.{option_copied};
-ghost use Rattle.fdb_keys.specs.Answers.{Answers, AnswersOrHandsBack, unless_memory};
+ghost use Rattle.fdb_keys.specs.Answers.{Answers, AnswersOrHandsBack};
 ghost use Rattle.fdb_keys.specs.Insertion.{with_range, with_ranges};
 ghost use Rattle.fdb_keys.specs.Ranges.{single_range};
 ghost use Rattle.fdb_keys.specs.Removal.{outside};
+ghost use Rattle.fdb_keys.specs.declared.refusal.Refusal.TheVariants.{TransactionTooLarge};
 ghost use Rattle.fdb_mutations.specs.Maps.{Map};
-ghost use Rattle.fdb_mutations.specs.Mutations.{mutation_fault};
+ghost use Rattle.fdb_mutations.specs.Mutations.{mutation_fault, mutation_size};
 ghost use Rattle.fdb_mutations.specs.PairLaws.{given_of};
 ghost use Rattle.fdb_client.specs.Programs.{program, copy, decided, decided_ranges, add_reads, is_read_only};
-ghost use Rattle.fdb_client.specs.Programs.{commit_request_of};
-ghost use Rattle.fdb_txn.specs.book.Size.{size_fault};
-ghost use Rattle.fdb_txn.specs.book.Transactions.{NamesWrites};
-ghost use Rattle.fdb_client.specs.Finishing.{finish_fault, IsFinished};
-ghost use Rattle.fdb_client.specs.declared.finished.Finished.TheVariants.{ToCommit};
+ghost use Rattle.fdb_client.specs.Programs.{mutations_of};
+ghost use Rattle.fdb_txn.specs.Limits.{size_limit};
+ghost use Rattle.fdb_client.specs.Finishing.{finish_fault, AsksFor, IsFinished};
 ghost use Rattle.fdb_client.specs.declared.program.Op.TheVariants as operation;
 ghost use Rattle.fdb_client.specs.declared.program.Reply.TheVariants as answer;
 
@@ -26,11 +25,12 @@ use crate::own_writes::OwnWrites;
 use crate::program::{Op, Reply, Transcript};
 use crate::range_read::pairs_of;
 use crate::reading::{pairs_copy, scanned_part, value_of};
+use crate::sealing::{check_written, sealed_of};
 use crate::snapshot::Snapshot;
 use bytes::Bytes;
-use fdb_keys::{Items, Key, KeyRange, RangeSet, Refusal, Refused, SharedList};
+use fdb_keys::{Items, Key, KeyRange, RangeSet, Refusal, Refused};
 use fdb_mutations::{Mutation, copied};
-use fdb_txn::{Sealed, TxnId, check_size};
+use fdb_txn::{Sealed, TxnId};
 use std::alloc::{AllocError, Global};
 
 // For how many operations a transaction makes room at its first get or write. Most have few.
@@ -45,8 +45,8 @@ pub(crate) struct TxnState {
     // What it reads and what it writes.
     pub(crate) reads: ConflictSet,
     pub(crate) writes: ConflictSet,
-    // The mutations among its operations.
-    pub(crate) mutations: Items<Mutation>,
+    // Whether there is a mutation among its operations.
+    pub(crate) mutates: bool,
 }
 
 impl TxnState {
@@ -67,7 +67,7 @@ impl TxnState {
             own: OwnWrites::new(alloc),
             reads: ConflictSet::new(alloc),
             writes: ConflictSet::new(alloc),
-            mutations: Items::new(alloc),
+            mutates: false,
         }
     }
 
@@ -298,24 +298,6 @@ impl TxnState {
         Ok(())
     }
 
-    // Lists a write among the operations and among the mutations. Where memory runs out, nothing changes.
-    fn list_write(&mut self, mutation: &Mutation) -> Result<(), Refusal>
-        ensures answers { Answers result None (λ _. self.new ≡ record self.old {
-          transcript = with_op self.old.transcript (operation.Write mutation.now) answer.Done;
-          mutations = self.old.mutations ++ mutation.now ∷ [];
-        }) }
-        ensures err { OnErr result (self.new ≡ self.old) }
-    {
-        self.transcript.ops.hold(FIRST_OPS)?;
-        let count = self.mutations.len();
-        self.mutations.push(copy_of(mutation)?)?;
-        if let Err(why) = push_write(&mut self.transcript.ops, mutation) {
-            self.mutations.truncate(count);
-            return Err(why);
-        }
-        Ok(())
-    }
-
     // Buffers a mutation. Where memory runs out, nothing changes.
     pub(crate) fn write(&mut self, mutation: &Mutation) -> Result<(), Refusal>
         requires kept { AreKept self.old }
@@ -325,13 +307,14 @@ impl TxnState {
         ensures err { OnErr result (self.new.transcript ≡ self.old.transcript) }
         ensures kept { AreKept self.new }
     {
-        let (noted, listed) = (self.transcript.ops.len(), self.mutations.len());
-        self.list_write(mutation)?;
+        self.transcript.ops.hold(FIRST_OPS)?;
+        let count = self.transcript.ops.len();
+        push_write(&mut self.transcript.ops, mutation)?;
         if let Err(why) = buffer(self.alloc, &mut self.own, &mut self.writes, mutation) {
-            self.transcript.ops.truncate(noted);
-            self.mutations.truncate(listed);
+            self.transcript.ops.truncate(count);
             return Err(why);
         }
+        self.mutates = true;
         Ok(())
     }
 
@@ -340,16 +323,28 @@ impl TxnState {
         requires { AreKept self.now }
         ensures { result ≡ is_read_only self.now.transcript }
     {
-        self.mutations.is_empty() && self.writes.is_empty()
+        !self.mutates && self.writes.is_empty()
     }
 
-    // Its read set and its write set, as they are submitted.
-    fn sets(&self) -> Result<(RangeSet, RangeSet), Refusal>
-        ensures { Answers result None (λ sets. (sets.0 ≡ self.now.reads) × (sets.1 ≡ self.now.writes)) }
+    // What it asks to commit. It stays as it is, and open.
+    pub(crate) fn request(&self) -> Result<Sealed, Refusal>
+        requires { AreKept self.now }
+        ensures answers { AsksFor self.now.transcript result }
+        ensures known { size_limit < sum_by mutation_size (mutations_of (program self.now.transcript.ops))
+            → result ≡ Err TransactionTooLarge }
     {
+        check_written(self.transcript.ops.as_slice())?;
         let reads = self.reads.to_set(self.alloc)?;
         let writes = self.writes.to_set(self.alloc)?;
-        Ok((reads, writes))
+        sealed_of(self.alloc, &self.transcript, reads, writes)
+    }
+
+    // Its operations with their replies, alone.
+    pub(crate) fn into_transcript(self) -> Transcript
+        ensures { result ≡ self.transcript }
+    {
+        let TxnState { transcript, .. } = self;
+        transcript
     }
 
     // What is left to do of it: nothing, which takes no memory, or to commit it. A refusal hands it back.
@@ -357,98 +352,18 @@ impl TxnState {
         requires { AreKept self }
         ensures answers { AnswersOrHandsBack result self (finish_fault result self.transcript)
             (IsFinished self.transcript) }
+        ensures known { size_limit < sum_by mutation_size (mutations_of (program self.transcript.ops))
+            → IfErr result (λ refused. refused.why ≡ TransactionTooLarge) × IsErr result }
         ensures back { IfErr result (λ refused. refused.back ≡ self) }
         ensures read_only { is_read_only self.transcript ≡ true → IsOk result }
     {
         if self.is_read_only() {
-            return Ok(Finished::ReadOnly(self.transcript));
+            return Ok(Finished::ReadOnly(self.into_transcript()));
         }
-        match self.sets() {
-            Ok((reads, writes)) => self.seal(reads, writes),
+        match self.request() {
+            Ok(sealed) => Ok(Finished::ToCommit(sealed, self.into_transcript())),
             Err(why) => Err(Refused { why, back: self }),
         }
-    }
-
-    // Seals it with its read set and its write set, if it isn't too large.
-    fn seal(self, reads: RangeSet, writes: RangeSet) -> Result<Finished, Refused<TxnState>>
-        requires kept { AreKept self }
-        requires reads { reads ≡ self.reads }
-        requires writes { writes ≡ self.writes }
-        ensures { AnswersOrHandsBack result self
-            (unless_memory result (size_fault (commit_request_of self.transcript)))
-            (λ finished. finished ≡ ToCommit (commit_request_of self.transcript) self.transcript) }
-    {
-        match check_size(&reads, &writes, self.mutations.as_slice()) {
-            Ok(()) => self.seal_fitting(reads, writes),
-            Err(why) => Err(Refused { why, back: self }),
-        }
-    }
-
-    // The same of one that isn't too large, whose mutations are shared from then on. So it is refused for memory alone.
-    fn seal_fitting(self, reads: RangeSet, writes: RangeSet) -> Result<Finished, Refused<TxnState>>
-        requires kept { AreKept self }
-        requires reads { reads ≡ self.reads }
-        requires writes { writes ≡ self.writes }
-        requires fits { size_fault (commit_request_of self.transcript) ≡ None }
-        ensures { AnswersOrHandsBack result self (unless_memory result None)
-            (λ finished. finished ≡ ToCommit (commit_request_of self.transcript) self.transcript) }
-    {
-        let TxnState {
-            alloc,
-            transcript,
-            own,
-            reads: kept_reads,
-            writes: kept_writes,
-            mutations,
-        } = self;
-        match SharedList::new(alloc, mutations) {
-            Ok(mutations) => {
-                let sealed = fitting(&transcript, reads, writes, mutations);
-                Ok(Finished::ToCommit(sealed, transcript))
-            }
-            Err(failed) => Err(Refused {
-                why: Refusal::NoMemory,
-                back: TxnState {
-                    alloc,
-                    transcript,
-                    own,
-                    reads: kept_reads,
-                    writes: kept_writes,
-                    mutations: failed.value,
-                },
-            }),
-        }
-    }
-}
-
-// What the transcript asks to commit, which isn't too large.
-fn fitting(
-    transcript: &Transcript,
-    reads: RangeSet,
-    writes: RangeSet,
-    mutations: SharedList<Mutation>,
-) -> Sealed
-    requires legal { All (λ mutation. mutation_fault mutation ≡ None) mutations }
-    requires named { NamesWrites (commit_request_of transcript.now) }
-    requires its { commit_request_of transcript.now ≡ record {
-      id = transcript.now.id;
-      read = transcript.now.read_version;
-      reads = reads;
-      writes = writes;
-      mutations = mutations;
-    } }
-    requires fits { size_fault (commit_request_of transcript.now) ≡ None }
-    ensures { result ≡ commit_request_of transcript.now }
-{
-    match Sealed::from_joined(
-        transcript.id,
-        transcript.read_version,
-        reads,
-        writes,
-        mutations,
-    ) {
-        Ok(sealed) => sealed,
-        Err(_) => unreachable!(),
     }
 }
 

@@ -6,9 +6,11 @@ pub use fdb_machine::laws::{
     gets_are_refused_exactly_where_the_shard_does_not_serve,
     grants_are_the_greatest_reported_version,
     range_reads_are_refused_exactly_where_a_shard_of_the_range_does_not_serve,
-    refusals_change_nothing, sessions_are_where_their_states_say,
-    steps_of_roles_are_accepted_where_they_are_due, traces_determine_the_machine,
-    who_begins_after_an_acknowledgement_is_ordered_after_it, worked_examples,
+    refusals_change_nothing, roles_fail_for_memory_alone_and_stay_failed,
+    sessions_are_where_their_states_say, steps_are_the_machines_where_their_roles_work,
+    steps_of_roles_are_accepted_where_they_are_due, the_role_that_takes_the_step_alone_may_fail,
+    traces_determine_the_machine, who_begins_after_an_acknowledgement_is_ordered_after_it,
+    worked_examples, worked_headline, worked_worlds,
 };
 pub use fdb_roles::laws::{
     commit_proxies_go_on_with_their_tickets, fronts_of_one_book_have_one_run,

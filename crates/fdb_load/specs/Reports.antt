@@ -1,5 +1,5 @@
 -- What a run prints, and the status that it ends with.
-use Rattle.std.specs.Prelude.{◌≡◌, ◌<◌, ◌+◌, ◌*◌, ℕ, List, true, codes, Some, ◌⊎◌, if◌then◌else◌}
+use Rattle.std.specs.Prelude.{◌≡◌, ◌*◌, ℕ, List, true, codes, Some, ◌⊎◌, if◌then◌else◌}
 use Rattle.serde_json.specs.Data.{Data, Members, number, unsigned, string, boolean, object, member, no_members}
 use Rattle.serde_json.specs.Written.{compact_text}
 use Rattle.fdb_print.specs.declared.stop.Stop.{Stop}
@@ -8,6 +8,7 @@ use Rattle.fdb_load.specs.declared.load.Load.{Load}
 use Rattle.fdb_load.specs.declared.report.Report.{Report}
 use Rattle.fdb_load.specs.declared.workload.Workload.{Workload}
 use Rattle.fdb_load.specs.declared.workload.Workload.TheVariants.{Ring, Transfers, Counters}
+use Rattle.fdb_load.specs.Judging.{AreAllTold, IsShown, IsTakenUp}
 
 abbrev pub workload_name : Workload → List ℕ
 workload_name Ring = codes "ring"
@@ -29,19 +30,12 @@ report_members report =
 abbrev pub report_data : Report → Data
 report_data report = object (report_members report)
 
--- All of so many tries were told of, and each transaction with a receipt was compared with the record.
-abbrev pub AreAllTold : ℕ → Report → Type 0
-AreAllTold tries report =
-    (report.acknowledged + report.aborted + report.unknown ≡ tries) × (report.checked ≡ report.acknowledged)
-
--- Where there were tries, one was acknowledged, and where none of them read anything, none was turned down.
-abbrev pub IsTakenUp : ℕ → Report → Type 0
-IsTakenUp tries report = (0 < tries → 0 < report.acknowledged) × (report.workload ≡ Counters → report.aborted ≡ 0)
-
--- It is a report of so many tries of the workload: where all checks held, of all of them, which were taken up.
+-- It is a report of so many tries of the workload: where all checks held, of all of them, which were taken up, and what
+-- the database holds in the end shows it.
 abbrev pub IsReportOf : Workload → ℕ → Report → Type 0
 IsReportOf workload tries report =
-    (report.workload ≡ workload) × (report.ok ≡ true → AreAllTold tries report × IsTakenUp tries report)
+    (report.workload ≡ workload)
+    × (report.ok ≡ true → AreAllTold tries report × IsTakenUp tries report × IsShown workload tries report)
 
 -- the report is printed, and the status says whether all checks held
 abbrev pub PrintsReport : Report → List ℕ → ℕ → Type 0

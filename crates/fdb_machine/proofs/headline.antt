@@ -1,8 +1,11 @@
 pub mod AnswerExamplesLemmas
 pub mod ExamplesLemmas
+pub mod FailingLaws
 pub mod FailureExamplesLemmas
 pub mod FailureLemmas
+pub mod HeadlineExamplesLemmas
 pub mod HeadlineLaws
+pub mod KeepingExamplesLemmas
 pub mod MoveExamplesLemmas
 pub mod PromiseLaws
 pub mod RunsLemmas

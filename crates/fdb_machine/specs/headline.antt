@@ -3,8 +3,11 @@ pub mod Answers
 pub mod Books
 pub mod Due
 pub mod Examples
+pub mod Failing
 pub mod FailureExamples
 pub mod Headline
+pub mod HeadlineExamples
+pub mod KeepingExamples
 pub mod MoveExamples
 pub mod Promises
 pub mod ReadingExamples

@@ -9,11 +9,21 @@ ghost use Rattle.fdb_machine.specs.headline.Examples.{OnlyTheFirstIsSerialized, 
 ghost use Rattle.fdb_machine.specs.headline.Examples.{OnlyOrdinaryReadsCount, BegunByServing, ForgetfulRolesDoNotKeep};
 ghost use Rattle.fdb_machine.specs.headline.Examples.{ReadOffTheTrace, Traced, ShardsGoOnAndForget};
 ghost use Rattle.fdb_machine.specs.headline.Examples.{EachServedVersionCounts};
+ghost use Rattle.fdb_machine.specs.headline.Failing.{AnswersAreTheMachines, FailedRolesAnswer, FailedRolesStayFailed};
+ghost use Rattle.fdb_machine.specs.headline.Failing.{NoneFailsWithMemory, OnlyTheTakerFails, RolesFailForMemory};
+ghost use Rattle.fdb_machine.specs.headline.Failing.{RefusedStepsLeaveTheMachine, WorkingRolesAnswer};
 ghost use Rattle.fdb_machine.specs.headline.FailureExamples.{FailedRolesRefuse, ReadsAskTheirShards, ReadersUseNoProxy};
-ghost use Rattle.fdb_machine.specs.headline.FailureExamples.{TheStepsOwnRoleFails};
+ghost use Rattle.fdb_machine.specs.headline.FailureExamples.{TheStepsOwnRoleFails, WhoAnswersHasNotFailed};
+ghost use Rattle.fdb_machine.specs.headline.FailureExamples.{FailedProxiesTellNothing};
 ghost use Rattle.fdb_machine.specs.headline.Headline.{AcknowledgedAreSerialized};
+ghost use Rattle.fdb_machine.specs.headline.KeepingExamples.{FailuresAreShown, OtherLogsAreInNoWorld};
+ghost use Rattle.fdb_machine.specs.headline.KeepingExamples.{OtherMessagesAreInNoWorld, OtherResolversAreInNoWorld};
+ghost use Rattle.fdb_machine.specs.headline.KeepingExamples.{OtherSequencersAreInNoWorld, OtherShardsAreInNoWorld};
 ghost use Rattle.fdb_machine.specs.headline.MoveExamples.{TheSpanBeginsAtTheWindow, TheLaterMoveCounts};
 ghost use Rattle.fdb_machine.specs.headline.MoveExamples.{MovesTakeEffectWithTheNextEntry};
+ghost use Rattle.fdb_machine.specs.headline.HeadlineExamples.{EachLogCounts, EachShardServes, LaterWritersAreAfter};
+ghost use Rattle.fdb_machine.specs.headline.HeadlineExamples.{NobodyIsToldTwice, OnlyTheAskedForIsSerialized};
+ghost use Rattle.fdb_machine.specs.headline.HeadlineExamples.{OnlyTheCommittedAreSerialized, SessionsAreAtOnePlace};
 ghost use Rattle.fdb_machine.specs.headline.Promises.{RefusalsChangeNothing, GrantsCommitted};
 ghost use Rattle.fdb_machine.specs.headline.Promises.{CommittedIsGreatestReported, GetsFromTheRun, GetsRefused};
 ghost use Rattle.fdb_machine.specs.headline.Promises.{RangeReadsFromTheRun, RangeReadsRefused, AcknowledgedAreLogged};
@@ -109,8 +119,9 @@ pub fn steps_of_roles_are_accepted_where_they_are_due()
 /// ordered after a version, what an empty shard would have to answer, which reads count, who has begun, what a role
 /// that forgets would have to keep, what is read off steps of every kind and of a trace with a conflict, which answers
 /// a trace has, what a shard of two pulls, forgets and pops and at which versions it answers from the run, who is asked
-/// where keys go over from one resolver to another, which steps are refused where a role has failed, and which roles
-/// may fail in a step in which memory runs out.
+/// where keys go over from one resolver to another, which steps are refused where a role has failed, which roles may
+/// fail in a step in which memory runs out, that a role which answers hasn't failed, and what a commit proxy tells of
+/// its batch.
 pub fn worked_examples()
     ensures spots { OnlyTheFirstIsSerialized }
     ensures read_only { ReadOnlyAtItsVersion }
@@ -140,6 +151,8 @@ pub fn worked_examples()
     ensures asked { ReadsAskTheirShards }
     ensures readers { ReadersUseNoProxy }
     ensures own { TheStepsOwnRoleFails }
+    ensures answered { WhoAnswersHasNotFailed }
+    ensures in_flight { FailedProxiesTellNothing }
 {}
 
 /// Over every trace the entries are a book: their versions rise, and each previous version is that of the entry before;
@@ -163,4 +176,64 @@ pub fn sessions_are_where_their_states_say()
 /// Over every trace every log has taken each entry with an acknowledged place, so what is acknowledged is in all logs.
 pub fn acknowledged_transactions_are_logged()
     ensures { AcknowledgedAreLogged }
+{}
+
+/// What the headline's own words refuse, each example for one thing. A transaction that is too old isn't serialized at
+/// its place, though its read was right; and at a place none is that sets another value, read another key, added a
+/// range to its write set, or read at another version than the one that stands there. A writer that begins after an
+/// acknowledgement and read below its version isn't after it. An entry that one log lacks isn't taken by all. The
+/// clients of an entry aren't told twice. A session isn't at two places. A second shard that has what nobody wrote
+/// doesn't serve.
+pub fn worked_headline()
+    ensures committed { OnlyTheCommittedAreSerialized }
+    ensures asked_for { OnlyTheAskedForIsSerialized }
+    ensures after { LaterWritersAreAfter }
+    ensures logged { EachLogCounts }
+    ensures told { NobodyIsToldTwice }
+    ensures places { SessionsAreAtOnePlace }
+    ensures shards { EachShardServes }
+{}
+
+/// What the roles of a small world keep, after one entry which all took, and what they keep in no such world, each
+/// example for one thing: another flag of a role that has failed than the world shows; a sequencer with another ticket,
+/// version or pending move, or with a move that its proxy has yet to learn; a resolver of another number or version, or
+/// with other writes than those of its entries; an entry without its part, without its message though it is decided, or
+/// with one though it isn't; a log of another number or version, or without its message; a shard of another number,
+/// range, floor or version, or with what nobody wrote; and one role less than there are. A role that has failed may
+/// keep anything.
+pub fn worked_worlds()
+    ensures failed { FailuresAreShown }
+    ensures sequencers { OtherSequencersAreInNoWorld }
+    ensures resolvers { OtherResolversAreInNoWorld }
+    ensures messages { OtherMessagesAreInNoWorld }
+    ensures logs { OtherLogsAreInNoWorld }
+    ensures shards { OtherShardsAreInNoWorld }
+{}
+
+/// A role fails only where memory runs out in a step, and stays failed: over each step and over any run of steps what
+/// has failed is failed afterwards, and over a step that is answered otherwise than that memory ran out nothing fails.
+/// So over every trace in which memory never ran out no role has failed.
+pub fn roles_fail_for_memory_alone_and_stay_failed()
+    ensures steps { RolesFailForMemory }
+    ensures stay { FailedRolesStayFailed }
+    ensures traces { NoneFailsWithMemory }
+{}
+
+/// Over a step one role may fail, the one that takes what the step hands it: the commit proxy that seals, the resolver
+/// or the log that takes an entry, or the shard that pulls. Each other role is as it was, and over a step of another
+/// kind all are.
+pub fn the_role_that_takes_the_step_alone_may_fail()
+    ensures { OnlyTheTakerFails }
+{}
+
+/// A step is the machine's where none of the roles that it comes to has failed: unless memory runs out in it, it is
+/// answered as the machine answers it, and leaves the machine that this goes on to. Where one of them has failed, it is
+/// refused as `Failed`, but as `Unknown` where the machine refuses it so. So no step is refused otherwise than by the
+/// machine, for want of memory, or because a role has failed that it comes to; and a refused step leaves the machine as
+/// it was.
+pub fn steps_are_the_machines_where_their_roles_work()
+    ensures working { WorkingRolesAnswer }
+    ensures failed { FailedRolesAnswer }
+    ensures answers { AnswersAreTheMachines }
+    ensures refused { RefusedStepsLeaveTheMachine }
 {}

@@ -1,3 +1,4 @@
+pub mod Acts
 pub mod Configs
 pub mod Driving
 pub mod Faults
@@ -7,6 +8,7 @@ pub mod Lines
 pub mod Numbers
 pub mod ReadBack
 pub mod Script
+pub mod Tallies
 pub mod Texts
 pub mod Words
 pub mod WriteLines

@@ -1,4 +1,4 @@
-pub mod Random
 pub mod play
 pub mod print
+pub mod random
 pub mod script

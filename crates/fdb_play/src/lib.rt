@@ -1,6 +1,7 @@
 //! Worlds that are played, by a script or by steps that are drawn from a seed, and what is printed of them.
 #![tactic(auto)]
 
+pub mod laws;
 mod play;
 mod print;
 mod random;

@@ -1,7 +1,9 @@
 //! Steps that are drawn from a seed, and taken by a world of two proxies of each kind, two resolvers, two logs and two
 //! shards.
-ghost use Rattle.std.specs.Prelude.{◌≡◌, ◌≤◌, ◌⊎◌, ℕ, Some, IfOk, IfErr, OnOk};
-ghost use Rattle.fdb_play.specs.Random.{EndsWith, IsEnded, IsReportOf, ReportPrints, RunPrints};
+ghost use Rattle.std.specs.Prelude.{◌≡◌, ◌≤◌, ◌⊎◌, [], ◌∷◌, length, codes, Some, IfOk, IfErr, OnOk};
+ghost use Rattle.fdb_machine.specs.machine.Worlds.{first_state};
+ghost use Rattle.fdb_play.specs.random.Reports.{EndsWith, IsEnded, IsReportOf, ReportPrints, RunPrints};
+ghost use Rattle.fdb_play.specs.random.Runs.{CountsStep, CountsSteps, drawn_config};
 ghost use Rattle.fdb_print.specs.Streams.{IsStreamError};
 ghost use Rattle.fdb_play.specs.declared.random.ended.Ended.TheVariants.{Io};
 ghost use Rattle.fdb_play.specs.play.Scripts.{Printed};
@@ -74,8 +76,8 @@ fn run_told<C: Clock, E: Sink>(
 }
 
 /// Takes so many steps that are drawn from the seed in a new world, and checks it. Answers what the steps were
-/// answered, and the report of it. It ends before where memory runs out, and where telling the watch fails. Beside the
-/// steps and the check it takes O(n) time for n steps.
+/// answered, each counted once, and the report of it. It ends before where memory runs out, and where telling the watch
+/// fails. Beside the steps and the check it takes O(n) time for n steps.
 pub fn run_steps<W: Watch>(
     alloc: Global,
     seed: u64,
@@ -91,12 +93,16 @@ pub fn run_steps<W: Watch>(
     ran
 }
 
-fn new_world(alloc: Global) -> Result<World, Refusal> {
+fn new_world(alloc: Global) -> Result<World, Refusal>
+    ensures { IfOk result (λ world. world.state ≡ first_state drawn_config) }
+{
     let config = config_of(alloc)?;
     World::new(alloc, config)
 }
 
-fn config_of(alloc: Global) -> Result<Config, Refusal> {
+fn config_of(alloc: Global) -> Result<Config, Refusal>
+    ensures { IfOk result (λ config. config ≡ drawn_config) }
+{
     let resolver_splits = splits(alloc)?;
     let shard_splits = splits(alloc)?;
     Ok(Config {
@@ -108,7 +114,9 @@ fn config_of(alloc: Global) -> Result<Config, Refusal> {
     })
 }
 
-fn splits(alloc: Global) -> Result<Items<Key>, Refusal> {
+fn splits(alloc: Global) -> Result<Items<Key>, Refusal>
+    ensures { IfOk result (λ splits. splits ≡ codes "k/4" ∷ []) }
+{
     let key = Key::new(alloc, SPLIT)?;
     let mut splits = Items::new(alloc);
     splits.push(key)?;
@@ -123,6 +131,7 @@ fn run_in<W: Watch>(
     steps: u32,
     watch: &mut W,
 ) -> Result<(Tally, Report), Ended>
+    requires { world.old.state ≡ first_state drawn_config }
     ensures report { IfOk result (λ ran. IsReportOf steps ran.0 ran.1) }
     ensures errors { IfErr result (EndsWith W.errors) }
 {
@@ -139,6 +148,7 @@ fn take_all<W: Watch>(
     steps: u32,
     watch: &mut W,
 ) -> Result<Tally, Ended>
+    ensures counted { IfOk result (CountsSteps steps world.old.state world.new.state) }
     ensures errors { IfErr result (EndsWith W.errors) }
 {
     let mut drawing = Drawing::new(seed);
@@ -156,7 +166,9 @@ fn take_one(
     alloc: Global,
     drawing: &mut Drawing,
     tally: &mut Tally,
-) -> Result<(), Refusal> {
+) -> Result<(), Refusal>
+    ensures { OnOk result (CountsStep world.old.state tally.old world.new.state tally.new) }
+{
     let act = drawing.draw(world);
     let answer = take(world, alloc, act);
     drawing.note(&answer);
@@ -173,7 +185,7 @@ fn take_one(
 // How many transactions were compared. There is no difference, as long as memory didn't run out. Fails only where it
 // does now.
 fn check(world: &World) -> Result<Option<u64>, Refusal>
-    ensures { IfOk result (λ checked. (count : ℕ) × (checked ≡ Some count)) }
+    ensures { IfOk result (λ checked. checked ≡ Some (length world.now.state.machine.acknowledged)) }
 {
     match world.check() {
         Ok(count) => Ok(Some(count)),

@@ -37,6 +37,11 @@ two_in_one_entry = record {
   batch = commit_request_of (reads_and_sets 0 None) ∷ commit_request_of (reads_and_sets 1 None) ∷ [];
 } ∷ []
 
+-- session 0's transaction alone in an entry at the version
+abbrev pub alone_at : ℕ → List Entry
+alone_at version = record
+    { version = version; prev = 0; moves = []; batch = commit_request_of (reads_and_sets 0 None) ∷ [] } ∷ []
+
 -- the key a is set at version 100, and cleared at 200
 abbrev pub set_and_cleared : List Entry
 set_and_cleared = two_in_one_entry ++ record {

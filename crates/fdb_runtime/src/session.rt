@@ -323,11 +323,11 @@ impl<B: ClusterName> Session<B> {
     /// at its read version, by the session alone. Everything else waits for the session's commit proxy.
     ///
     /// Refused as `NoTransaction` where none is open, as `TransactionTooLarge` where it has more than 10,000,000 bytes,
-    /// and as `NoMemory` before it is submitted; then nothing changes, and none is handed back. Every other refusal
-    /// ends the transaction and hands its transcript back: `NotCommitted` where another one wrote what it read, and
-    /// `TransactionTooOld` where it read at too old a version, which both may be tried anew; `BookFull`, `Exhausted`,
-    /// `Repeated` and `Chain` where it got no entry, `Closed` once the database is closed, and `Failed`. It has no
-    /// effect after any of these. After `CommitUnknownResult` it may have been committed or not.
+    /// and as `NoMemory` before its proxy took it; then nothing changes, it may be committed once more, and none is
+    /// handed back. Every other refusal ends the transaction and hands its transcript back: `NotCommitted` where another
+    /// one wrote what it read, and `TransactionTooOld` where it read at too old a version, which both may be tried anew;
+    /// `BookFull`, `Exhausted`, `Repeated` and `Chain` where it got no entry, `Closed` once the database is closed, and
+    /// `Failed`. It has no effect after any of these. After `CommitUnknownResult` it may have been committed or not.
     pub fn commit<R: Wait>(
         &mut self,
         rt: &R,
@@ -346,12 +346,12 @@ impl<B: ClusterName> Session<B> {
                 let told = ask_commit(rt, &self.shared, &self.slots, self.number, request);
                 self.client.settle(self.shared.limit(), told)
             }
-            Err(refused) => Err(refused),
+            Err(why) => Err(Refused { why, back: None }),
         }
     }
 }
 
-// What the session's commit proxy tells of the request.
+// What the session's commit proxy tells of the request, or why its inbox didn't take that.
 fn ask_commit<B: ClusterName, R: Wait>(
     rt: &R,
     shared: &Shared<B>,

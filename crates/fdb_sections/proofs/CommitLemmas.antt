@@ -1,26 +1,25 @@
 -- What a session that commits is answered, by what its transaction came to.
-use Rattle.std.proofs.Common.{◌≡◌, ◌∙◌, refl, sym, ap, subst, inr, ⊎_elim, Bool, true, false, List}
+use Rattle.std.proofs.Common.{◌≡◌, ◌∙◌, refl, sym, ap, subst, inl, inr, ⊎_elim, Bool, true, false, List}
 use Rattle.std.proofs.Common.{Option, Some, None, if◌then◌else◌}
 use Rattle.std.specs.Prelude.{◌⊎◌, max, Result, Ok, Err, IfSome}
 use Rattle.fdb_keys.specs.declared.refusal.Refusal.{Refusal}
 use Rattle.fdb_keys.specs.declared.refusal.Refusal.TheVariants as refusal
 use Rattle.fdb_keys.specs.declared.refusal.Refused.{Refused}
 use Rattle.fdb_txn.specs.declared.entry.Entry.{Entry}
-use Rattle.fdb_txn.specs.book.Transactions.{Transaction}
 use Rattle.fdb_txn.specs.rules.Admission.{is_fresh}
 use Rattle.fdb_book.specs.Fronts.{IsPrefix}
 use Rattle.fdb_proxy.specs.declared.config.Config.{Config}
 use Rattle.fdb_client.specs.declared.program.Transcript.{Transcript}
-use Rattle.fdb_client.specs.Programs.{is_read_only, commit_request_of}
+use Rattle.fdb_client.specs.Programs.{is_read_only}
 use Rattle.fdb_roles.specs.Spots.{spot_version}
 use Rattle.fdb_roles.specs.Sessions.{OfOpen}
 use Rattle.fdb_sections.specs.Commits.{HasReceipt, HasTranscript, CommitEnds, CommitAnswers, open_fault}
 use Rattle.fdb_sections.specs.Commits.{is_handed_back, is_read_only_spot}
-use Rattle.fdb_sections.specs.Endings.{Ends}
+use Rattle.fdb_sections.specs.Endings.{Ends, IsEnded}
 use Rattle.fdb_sections.specs.Receipts.{ReceiptAtFront, OutcomeAtFront, IsTurnedDown, read_only_receipt}
 use Rattle.fdb_sections.specs.Sessions.{Session, Settles, longer, with_current}
 use Rattle.fdb_sections.specs.declared.session_state.settling.Ended.{Ended}
-use Rattle.fdb_sections.specs.declared.session_state.settling.Ended.TheVariants.{Acknowledged, ToCommit}
+use Rattle.fdb_sections.specs.declared.session_state.settling.Ended.TheVariants.{Acknowledged}
 use Rattle.fdb_sections.proofs.SessionLemmas.{begins-itself}
 
 -- A transaction that wrote nothing has its receipt.
@@ -45,12 +44,9 @@ acknowledged {B} config old middle new receipt ended its of middle-is new-is = b
           current = None;
         }) (sym front-is)
 
-    by_kind : (transcript : Transcript) (kind : Bool) → is_read_only transcript ≡ kind
-        → ended ≡ (if kind then Acknowledged (read_only_receipt old.front transcript)
-        else ToCommit (commit_request_of transcript) transcript)
+    has : (transcript : Transcript) → is_read_only transcript ≡ true → receipt ≡ read_only_receipt old.front transcript
         → HasReceipt old transcript receipt new
-    by_kind transcript true kind is =
-        let same : receipt ≡ read_only_receipt old.front transcript = cc in
+    has transcript kind same =
         let front-is : receipt.front ≡ old.front = ap (λ (it : ReceiptAtFront). it.front) same in
         record {
           its = ap (λ (it : ReceiptAtFront). it.transcript) same;
@@ -58,45 +54,13 @@ acknowledged {B} config old middle new receipt ended its of middle-is new-is = b
           begins = subst (IsPrefix old.front) (sym front-is) (begins-itself old.front);
           left = left-is front-is;
         }
-    by_kind transcript false kind is = absurd cc
 
     by_current : (current : Option Transcript) → OfOpen current (Ok ended) (Ends old.front (Ok ended))
         → (open_fault current ≡ None) × IfSome current (λ transcript. HasReceipt old transcript receipt new)
     by_current None is = absurd cc
-    by_current (Some transcript) is = (is.1, by_kind transcript (is_read_only transcript) refl is.0)
-
--- What is to be committed is what was open, and wrote something.
-pub to-commit : {B : Type 0} (front : List Entry) (current : Option Transcript) (request : Transaction)
-    (transcript : Transcript) (ended : Ended B) → ended ≡ ToCommit request transcript
-    → OfOpen current (Ok ended) (Ends front (Ok ended))
-    → (current ≡ Some transcript) × (open_fault current ≡ None)
-to-commit {B} front None request transcript ended its is = absurd cc
-to-commit {B} front (Some own) request transcript ended its is =
-    (by_kind (is_read_only own) is.0, is.1)
-  where
-    by_kind : (kind : Bool)
-        → ended ≡ (if kind then Acknowledged (read_only_receipt front own) else ToCommit (commit_request_of own) own)
-        → Some own ≡ Some transcript
-    by_kind true same = absurd cc
-    by_kind false same =
-        let its-own : own ≡ transcript = cc in
-        ap (λ (it : Transcript). Some it) its-own
-
--- And it is what the transcript asks to commit.
-pub request-is : {B : Type 0} (front : List Entry) (current : Option Transcript) (request : Transaction)
-    (transcript : Transcript) (ended : Ended B) → ended ≡ ToCommit request transcript
-    → OfOpen current (Ok ended) (Ends front (Ok ended)) → request ≡ commit_request_of transcript
-request-is {B} front None request transcript ended its is = absurd cc
-request-is {B} front (Some own) request transcript ended its is = by_kind (is_read_only own) is.0
-  where
-    by_kind : (kind : Bool)
-        → ended ≡ (if kind then Acknowledged (read_only_receipt front own) else ToCommit (commit_request_of own) own)
-        → request ≡ commit_request_of transcript
-    by_kind true same = absurd cc
-    by_kind false same =
-        let its-own : own ≡ transcript = cc in
-        let asked : request ≡ commit_request_of own = cc in
-        asked ∙ ap commit_request_of its-own
+    by_current (Some transcript) is =
+        let given = subst (IsEnded old.front transcript) its is.0 in
+        (is.1, has transcript given.0 given.1)
 
 -- What a session was told of a transaction that has no receipt, it hands on with the transcript.
 pub turned-back : (config : Config) (old new : Session) (told : OutcomeAtFront) (transcript : Transcript)
@@ -152,18 +116,6 @@ turned-back config old new told transcript refused none begins settles turned = 
         (sym (ap (λ (it : Session). it.front) is))
         ∙ ap (λ (it : Option Transcript). record old { front = new.front; current = it }) none
 
--- Nothing is known of a transaction that wasn't submitted, since memory ran out.
-pub left-unknown : (config : Config) (it : Session) (transcript back : Transcript) → back ≡ transcript
-    → it.current ≡ None
-    → CommitEnds config it transcript (Err (record { why = refusal.CommitUnknownResult; back = Some back })) it
-left-unknown config it transcript back same none = record {
-  back = ap (λ (own : Transcript). Some own) same;
-  listed = refl;
-  tells = (λ wrong. absurd cc, λ wrong. absurd cc, λ wrong. absurd cc);
-  begins = begins-itself it.front;
-  left = ap (λ (current : Option Transcript). record it { front = it.front; current = current }) none;
-}
-
 -- What becomes of what was open is what the session is answered.
 pub ended-open : (config : Config) (old new : Session) (transcript : Transcript)
     (result : Result ReceiptAtFront (Refused (Option Transcript))) → old.current ≡ Some transcript
@@ -181,21 +133,13 @@ ended-open config old new transcript result own may = by_result result
       some (λ (it : Transcript). HasReceipt old it receipt new)
           (record { its = is.its; read_only = is.read_only; begins = is.begins; left = is.left }),
     )
-    by_result (Err refused) is = inr (
+    by_result (Err refused) (inl is) = inr (
       may,
       some (λ (it : Transcript). HasTranscript config old it refused new)
           (record { back = is.back; listed = is.listed; tells = is.tells; begins = is.begins; left = is.left }),
     )
-
--- It ends as it would have ended open.
-pub submitted : {B : Type 0} (config : Config) (old middle new : Session) (request : Transaction)
-    (transcript : Transcript) (result : Result ReceiptAtFront (Refused (Option Transcript))) (ended : Ended B)
-    → ended ≡ ToCommit request transcript → OfOpen old.current (Ok ended) (Ends old.front (Ok ended))
-    → middle ≡ with_current old None → CommitEnds config middle transcript result new
-    → CommitAnswers config old result new
-submitted {B} config old middle new request transcript result ended its of middle-is ends =
-    ended-open config old new transcript result own.0 own.1
-    (subst (λ (it : Session). CommitEnds config it transcript result new) middle-is ends)
-  where
-    own : (old.current ≡ Some transcript) × (open_fault old.current ≡ None)
-    own = to-commit old.front old.current request transcript ended its of
+    by_result (Err refused) (inr is) = inl (
+      ap (λ (it : Refused (Option Transcript)). it.back) is.0,
+      is.1 ∙ ap (λ (current : Option Transcript). record old { current = current }) (sym own),
+      inl (ap (λ (it : Refused (Option Transcript)). it.why) is.0),
+    )

@@ -75,11 +75,22 @@ pub record HasTranscript (config : Config) (old : Session) (transcript : Transcr
   pub begins : IsPrefix old.front new.front
   pub left : new ≡ record old { front = new.front; current = None }
 
+-- Memory ran out before the proxy took the request: the transaction is open as it was, and isn't handed back.
+abbrev pub IsOpenAgain : Session → Transcript → Refused (Option Transcript) → Session → Type 0
+IsOpenAgain old transcript refused new =
+    (refused ≡ record { why = refusal.NoMemory; back = None }) × (new ≡ record old { current = Some transcript })
+
 -- what becomes of a session's transaction that was submitted
 abbrev pub CommitEnds : Config → Session → Transcript → Result ReceiptAtFront (Refused (Option Transcript)) → Session
     → Type 0
 CommitEnds config old transcript (Ok receipt) new = HasReceipt old transcript receipt new
-CommitEnds config old transcript (Err refused) new = HasTranscript config old transcript refused new
+CommitEnds config old transcript (Err refused) new =
+    HasTranscript config old transcript refused new ⊎ IsOpenAgain old transcript refused new
+
+-- whether a request that is refused so was never taken
+abbrev pub is_untaken : Refusal → Bool
+is_untaken refusal.NoMemory = true
+is_untaken why = false
 
 -- A session that is refused without a front has that reason where it tells nothing of the book and ends a transaction;
 -- else it doesn't know what became of it.
@@ -100,15 +111,22 @@ IsByFull config it front why new =
     × (why ≡ (if length new.front == config.book then refusal.BookFull else refusal.CommitUnknownResult)))
     ⊎ ((new ≡ it) × (why ≡ refusal.CommitUnknownResult))
 
+-- It is refused with no front to show why: it is open again where its request was never taken, and else it is answered
+-- that reason, if a session may be.
+abbrev pub IsByReason : Session → Transcript → Refusal → Result ReceiptAtFront (Refused (Option Transcript)) → Session
+    → Type 0
+IsByReason it transcript why (Ok receipt) new = ⊥
+IsByReason it transcript why (Err refused) new =
+    (is_untaken why ≡ true → IsOpenAgain it transcript refused new)
+    × (is_untaken why ≡ false → (refused.why ≡ plain_reason why) × (new ≡ it))
+
 -- A session is answered what it is told: what became of its transaction, that the book is full, or that it is refused.
 abbrev pub IsToldSo : {B : Type 0} → Config → Session → Transcript → CommitReply B
     → Result ReceiptAtFront (Refused (Option Transcript)) → Session → Type 0
 IsToldSo config it transcript (reply.Outcome told) result new = IsByOutcome it told transcript result new
 IsToldSo config it transcript (reply.Full front) (Ok receipt) new = ⊥
 IsToldSo config it transcript (reply.Full front) (Err refused) new = IsByFull config it front refused.why new
-IsToldSo config it transcript (reply.Refused why) (Ok receipt) new = ⊥
-IsToldSo config it transcript (reply.Refused why) (Err refused) new =
-    (refused.why ≡ plain_reason why) × (new ≡ it)
+IsToldSo config it transcript (reply.Refused why) result new = IsByReason it transcript why result new
 
 -- why a session's transaction can't be submitted
 abbrev pub open_fault : Option Transcript → Option Refusal

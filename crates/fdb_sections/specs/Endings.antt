@@ -1,34 +1,24 @@
 -- How the open transaction of a session ends.
-use Rattle.std.specs.Prelude.{◌≡◌, ◌⊎◌, ⊤, List, None, Some, Result, Ok, Err, if◌then◌else◌}
+use Rattle.std.specs.Prelude.{◌≡◌, ◌⊎◌, ⊤, true, false, List, None, Some, Result, Ok, Err}
 use Rattle.fdb_keys.specs.Points.{Point}
 use Rattle.fdb_keys.specs.declared.refusal.Refusal.{Refusal}
 use Rattle.fdb_keys.specs.declared.refusal.Refusal.TheVariants.{NoMemory}
 use Rattle.fdb_txn.specs.declared.entry.Entry.{Entry}
-use Rattle.fdb_client.specs.declared.finished.Finished.{Finished}
-use Rattle.fdb_client.specs.declared.finished.Finished.TheVariants as finished
 use Rattle.fdb_client.specs.declared.program.Transcript.{Transcript}
 use Rattle.fdb_client.specs.Programs.{is_read_only, commit_request_of}
 use Rattle.fdb_roles.specs.Sessions.{submit_fault}
 use Rattle.fdb_sections.specs.declared.session_state.settling.Ended.{Ended}
 use Rattle.fdb_sections.specs.declared.session_state.settling.Ended.TheVariants.{Acknowledged, ToCommit}
-use Rattle.fdb_sections.specs.Receipts.{IsReceipt, read_only_receipt}
+use Rattle.fdb_sections.specs.Receipts.{read_only_receipt}
 use Rattle.fdb_sections.specs.Sessions.{Session, IsOpenAt}
 
--- what is left to do of what is finished; where that is nothing, its receipt on the front
-abbrev pub ended_on : {B : Type 0} → List Entry → Finished → Ended B
-ended_on front (finished.ReadOnly transcript) = Acknowledged (read_only_receipt front transcript)
-ended_on front (finished.ToCommit request transcript) = ToCommit request transcript
-
--- what wrote nothing has a receipt there
-abbrev pub MayEndOn : List Point → List Entry → Finished → Type 0
-MayEndOn splits front (finished.ReadOnly transcript) = IsReceipt splits (read_only_receipt front transcript)
-MayEndOn splits front (finished.ToCommit request transcript) = ⊤
-
--- a transaction that wrote nothing has its receipt on the front, and another one is to be committed
+-- a transaction that wrote nothing has its receipt on the front, and any other is submitted, as the request that it makes
 abbrev pub IsEnded : {B : Type 0} → List Entry → Transcript → Ended B → Type 0
-IsEnded front transcript ended =
-    ended ≡ (if is_read_only transcript then Acknowledged (read_only_receipt front transcript)
-    else ToCommit (commit_request_of transcript) transcript)
+IsEnded front transcript (Acknowledged receipt) =
+    (is_read_only transcript ≡ true) × (receipt ≡ read_only_receipt front transcript)
+IsEnded front transcript (ToCommit request submitted) =
+    (is_read_only transcript ≡ false) × (request ≡ commit_request_of transcript)
+    × (submitted.transaction ≡ transcript)
 
 -- The transaction ends on the front, and may be submitted; or it doesn't, because memory ran out or it may not be.
 abbrev pub Ends : {B : Type 0} → List Entry → Result (Ended B) Refusal → Transcript → Type 0
@@ -38,4 +28,5 @@ Ends front (Err why) transcript = (why ≡ NoMemory) ⊎ (submit_fault transcrip
 -- what is to be committed is the session's, which may settle it
 abbrev pub MaySettle : {B : Type 0} → List Point → Session → Ended B → Type 0
 MaySettle splits it (Acknowledged receipt) = ⊤
-MaySettle splits it (ToCommit request transcript) = IsOpenAt splits it.number it.next_number it.front transcript
+MaySettle splits it (ToCommit request submitted) =
+    IsOpenAt splits it.number it.next_number it.front submitted.transaction

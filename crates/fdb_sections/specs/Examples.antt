@@ -1,5 +1,5 @@
 -- What sessions come to and are told, computed.
-use Rattle.std.specs.Prelude.{◌≡◌, ℕ, true, false, List, [], ◌∷◌, Some, None}
+use Rattle.std.specs.Prelude.{◌≡◌, ℕ, true, false, List, [], ◌∷◌, Some, None, Err}
 use Rattle.fdb_keys.specs.declared.refusal.Refusal.TheVariants as refusal
 use Rattle.fdb_txn.specs.declared.entry.Entry.{Entry}
 use Rattle.fdb_txn.specs.declared.spot.Spot.TheVariants as spot
@@ -7,7 +7,7 @@ use Rattle.fdb_proxy.specs.declared.config.Config.{Config}
 use Rattle.fdb_client.specs.Programs.{commit_request_of}
 use Rattle.fdb_client.specs.declared.program.Transcript.{Transcript}
 use Rattle.fdb_roles.specs.SmallBooks.{does_nothing, plain, reads_and_sets, set_and_cleared, two_in_one_entry}
-use Rattle.fdb_sections.specs.Commits.{IsByFull, Tells, plain_reason}
+use Rattle.fdb_sections.specs.Commits.{IsByFull, IsByReason, Tells, plain_reason}
 use Rattle.fdb_sections.specs.Receipts.{GrantAtFront, IsTurnedDown, ReceiptAtFront}
 use Rattle.fdb_sections.specs.Sessions.{Session, begin_fault, beginning, learning}
 use Rattle.fdb_sections.specs.Waiting.{ended_by, reach_fault}
@@ -16,7 +16,7 @@ use Rattle.fdb_sections.specs.Waiting.{ended_by, reach_fault}
 abbrev pub fresh : Session
 fresh = record { number = 3; next_number = 0; front = []; mark = 0; current = None }
 
--- the same once it has seen the entry at 100 and that at 200, in which its own transaction stands
+-- the same once it has seen the entry at 100 and that at 200, in which session 0's transaction stands
 abbrev pub marked : Session
 marked = record fresh { front = set_and_cleared; mark = 200 }
 
@@ -82,6 +82,25 @@ WorkedReasons =
     × (plain_reason refusal.BookFull ≡ refusal.CommitUnknownResult)
     × (plain_reason refusal.NoMemory ≡ refusal.CommitUnknownResult)
     × (plain_reason refusal.WrongState ≡ refusal.CommitUnknownResult)
+
+-- the same session with its first transaction open
+abbrev pub opened_first : Session
+opened_first = record fresh { current = Some (opened 100) }
+
+-- A request that was never taken, since memory ran out, leaves its transaction open, and nothing is handed back; after
+-- any other reason none is open, and the transaction is handed back.
+abbrev pub WorkedUntaken : Type 0
+WorkedUntaken =
+    IsByReason fresh (opened 100) refusal.NoMemory (Err (record { why = refusal.NoMemory; back = None })) opened_first
+    × (IsByReason fresh (opened 100) refusal.NoMemory (Err (record { why = refusal.NoMemory; back = None })) fresh → ⊥)
+    × (IsByReason fresh (opened 100) refusal.NoMemory
+    (Err (record { why = refusal.CommitUnknownResult; back = Some (opened 100) })) opened_first → ⊥)
+    × IsByReason fresh (opened 100) refusal.Failed
+    (Err (record { why = refusal.Failed; back = Some (opened 100) })) fresh
+    × (IsByReason fresh (opened 100) refusal.Failed
+    (Err (record { why = refusal.NoMemory; back = None })) opened_first → ⊥)
+    × (IsByReason fresh (opened 100) refusal.Failed
+    (Err (record { why = refusal.Failed; back = Some (opened 100) })) opened_first → ⊥)
 
 -- one of each role, and a book of so many entries
 abbrev pub of_book : ℕ → Config

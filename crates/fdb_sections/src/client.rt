@@ -3,21 +3,20 @@ ghost use Rattle.std.specs.Prelude.{◌≡◌, ◌≤◌, ◌⊎◌, max, [], No
 ghost use Rattle.std.specs.Prelude.{if◌then◌else◌, suc, length};
 ghost use Rattle.std.specs.Option.{option_map};
 ghost use Rattle.fdb_keys.specs.Answers.{Answers};
-ghost use Rattle.fdb_keys.specs.declared.refusal.Refusal.TheVariants.{NoTransaction, WrongState, CommitUnknownResult};
+ghost use Rattle.fdb_keys.specs.declared.refusal.Refusal.TheVariants.{NoTransaction, WrongState};
 ghost use Rattle.fdb_keys.specs.declared.refusal.Refusal.TheVariants.{Exhausted, NoMemory, KeyOutsideLegalRange};
 ghost use Rattle.fdb_mutations.specs.Mutations.{mutation_fault};
 ghost use Rattle.fdb_txn.specs.book.Book.{last_version};
 ghost use Rattle.fdb_txn.specs.book.History.{IsBook};
 ghost use Rattle.fdb_book.specs.Fronts.{IsPrefix};
 ghost use Rattle.fdb_storage.specs.Shards.{key_fault};
-ghost use Rattle.fdb_client.specs.Programs.{program, decided, commit_request_of};
-ghost use Rattle.fdb_sections.specs.declared.client.Asked.TheVariants as asks;
+ghost use Rattle.fdb_client.specs.Programs.{program, decided};
 ghost use Rattle.fdb_client.specs.TxnState.{with_op};
 ghost use Rattle.fdb_client.specs.declared.program.Op.TheVariants as operation;
 ghost use Rattle.fdb_client.specs.declared.program.Reply.TheVariants as answer;
 ghost use Rattle.fdb_client.specs.declared.program.Transcript.{Transcript as ATranscript};
 ghost use Rattle.fdb_roles.specs.Sessions.{OfOpen};
-ghost use Rattle.fdb_sections.specs.Clients.{unless_submitted, Asks, MayEnd};
+ghost use Rattle.fdb_sections.specs.Clients.{unless_submitted, Asks};
 ghost use Rattle.fdb_sections.specs.Commits.{CommitEnds, IsToldSo};
 ghost use Rattle.fdb_sections.specs.LentShards.{lent_shards, lending_fault};
 ghost use Rattle.fdb_sections.specs.Reading.{HasRead, own_writes_decide, RefusedBy};
@@ -68,12 +67,12 @@ impl<B: ClusterName> Model for Client<B> {
 
     ghost view = { λ it. record {
       session = it.state;
-      submitted = option_map (λ (one : AsSubmitted). one.transcript) it.submitted;
+      submitted = option_map (λ (one : AsSubmitted). one.transaction) it.submitted;
     } };
 
     ghost invariant = { λ it. IsClient B.config.resolver_splits (record {
       session = it.state;
-      submitted = option_map (λ (one : AsSubmitted). one.transcript) it.submitted;
+      submitted = option_map (λ (one : AsSubmitted). one.transaction) it.submitted;
     }) };
 }
 
@@ -296,49 +295,22 @@ impl<B: ClusterName> Client<B> {
 
     /// Ends the open transaction. Where it wrote nothing, it has its receipt, at its read version. Else it is
     /// submitted: it gives the request for the session's commit proxy, and `settle` is to be called with what that
-    /// tells.
+    /// tells, or with `NoMemory` where the request couldn't be sent.
     ///
     /// Refused as `NoTransaction` where none is open, as `TransactionTooLarge` where it has more than 10,000,000 bytes,
-    /// and as `NoMemory`; then nothing changes, and none is handed back. Where memory runs out for a copy of the
-    /// request, the transcript is handed back as `CommitUnknownResult`, and nothing was submitted.
-    pub fn commit(&mut self) -> Result<Asked<B>, Refused<Option<Transcript>>>
+    /// and as `NoMemory`; then nothing changes. It takes the time of `Txn::request`.
+    pub fn commit(&mut self) -> Result<Asked<B>, Refusal>
         ensures { Asks B.config self.old result self.new }
     {
-        match self.state.finish_or_receipt() {
+        match self.state.submit() {
             Ok(Ended::Acknowledged(receipt)) => {
                 Ok(Asked::Acknowledged(self.state.acknowledge(receipt)))
             }
-            Ok(Ended::ToCommit(sealed, transcript)) => self.submit(sealed, transcript),
-            Err(why) => Err(Refused { why, back: None }),
-        }
-    }
-
-    // Keeps what is submitted, and gives the request of it.
-    fn submit(
-        &mut self,
-        sealed: Sealed,
-        transcript: Transcript,
-    ) -> Result<Asked<B>, Refused<Option<Transcript>>>
-        requires none { self.old.submitted ≡ None }
-        requires request { sealed ≡ commit_request_of transcript }
-        requires may { MayEnd B.config.resolver_splits self.old.session transcript }
-        ensures asked { IfOk result (λ asked. (asked ≡ asks.ToCommit sealed)
-            × (self.new ≡ record self.old { submitted = Some transcript })) }
-        ensures back { IfErr result (λ refused. (refused.why ≡ CommitUnknownResult)
-            × (refused.back ≡ Some transcript) × (self.new ≡ self.old)) }
-    {
-        match Submitted::new(&sealed, transcript) {
-            Ok(submitted) => {
+            Ok(Ended::ToCommit(request, submitted)) => {
                 drop(mem::replace(&mut self.submitted, Some(submitted)));
-                Ok(Asked::ToCommit(sealed))
+                Ok(Asked::ToCommit(request))
             }
-            Err(transcript) => {
-                drop(sealed);
-                Err(Refused {
-                    why: Refusal::CommitUnknownResult,
-                    back: Some(transcript),
-                })
-            }
+            Err(why) => Err(why),
         }
     }
 

@@ -1,13 +1,15 @@
 //! What sessions come to and are told, for the reader of their definitions.
 ghost use Rattle.fdb_sections.specs.Examples.{WorkedEndings, WorkedFullBooks, WorkedReasons, WorkedSessions};
-ghost use Rattle.fdb_sections.specs.Examples.{WorkedTurnedDown};
+ghost use Rattle.fdb_sections.specs.Examples.{WorkedTurnedDown, WorkedUntaken};
 
-/// What a session comes to that begins and learns, which transactions are turned down, why a session is refused, when
-/// it is told that the book is full, and why a shard's thread ended, by examples.
+/// What a session comes to that begins and learns, which transactions are turned down, why a session is refused,
+/// when its transaction is open again, when it is told that the book is full, and why a shard's thread ended, by
+/// examples.
 pub fn worked_examples()
     ensures sessions { WorkedSessions }
     ensures turned_down { WorkedTurnedDown }
     ensures reasons { WorkedReasons }
+    ensures untaken { WorkedUntaken }
     ensures full_books { WorkedFullBooks }
     ensures endings { WorkedEndings }
 {}

@@ -42,6 +42,3 @@ pub use roles::resolver::ResolverAt;
 pub use roles::sequencer::{GrantMessage, Issued, Reported, SequencerAt};
 pub use roles::shard::ShardAt;
 pub use roles::shard::gathering::Gathering;
-pub use session_state::SessionState;
-pub use session_state::settling::Ended;
-pub use session_state::submitted::Submitted;

@@ -6,7 +6,7 @@ use Rattle.clap.specs.Words.{App, IsAmong, Text, fault_of, subcommand_of}
 use Rattle.clap.specs.declared.builder.value_parser.ValueParser.{ValueParser}
 use Rattle.clap.specs.declared.error.kind.ErrorKind.{ErrorKind}
 use Rattle.clap.specs.declared.error.kind.ErrorKind.TheVariants as kind
-use Rattle.fdb_play.specs.Random.{RunPrints}
+use Rattle.fdb_play.specs.random.Reports.{RunPrints}
 use Rattle.fdb_play.specs.play.Scripts.{Knows, Plays, Printed}
 use Rattle.fdb_print.specs.Stops.{printed_line}
 use Rattle.fdb_load.specs.declared.load.Load.{Load}

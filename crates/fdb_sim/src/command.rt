@@ -2,7 +2,7 @@ ghost use Rattle.std.specs.Prelude.{◌≡◌, ◌≤◌, IfOk, IfErr, OnOk, map
 ghost use Rattle.std.specs.Io.KnownBytes.{Appends};
 ghost use Rattle.clap.specs.Words.{kind_of};
 ghost use Rattle.fdb_print.specs.Streams.{IsLimitedError, IsStreamError};
-ghost use Rattle.fdb_play.specs.Random.{RunPrints};
+ghost use Rattle.fdb_play.specs.random.Reports.{RunPrints};
 ghost use Rattle.fdb_play.specs.play.Scripts.{Printed};
 ghost use Rattle.fdb_sim.specs.Commands.{EndsBy, LackMemory, Obeys, out_of_memory};
 

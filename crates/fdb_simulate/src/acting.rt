@@ -3,7 +3,7 @@ use crate::player::Wish;
 use crate::sim::{Sim, count_of};
 use crate::tally::Tally;
 use bytes::Bytes;
-use fdb_keys::{Key, KeyRange, Refusal};
+use fdb_keys::{Key, KeyRange, Refusal, Refused};
 use fdb_mutations::Mutation;
 use fdb_sections::{
     Asked, Client, ClusterName, CommitReply, LogState, Next, PullMachine, PullNext, ShardAt,
@@ -346,7 +346,7 @@ impl<B: ClusterName> Sim<B> {
         match player.client.commit() {
             Ok(Asked::Acknowledged(receipt)) => self.note_receipt(number, receipt),
             Ok(Asked::ToCommit(sealed)) => self.submit(number, sealed),
-            Err(refused) => self.note_refused(number, refused),
+            Err(why) => self.note_refused(number, Refused { why, back: None }),
         }
     }
 

@@ -209,7 +209,7 @@ impl<B: ClusterName> Sim<B> {
             return Ok(());
         };
         match proxy.logged(&sent.message) {
-            Ok(()) | Err(Refusal::Stale | Refusal::WrongState) => {}
+            Ok(()) | Err(Refusal::Stale) => {}
             Err(_why) => self.fail(number),
         }
         if self.comes_again() {
@@ -347,7 +347,17 @@ impl<B: ClusterName> Sim<B> {
             Refusal::CommitUnknownResult => Tally::add(&mut self.told.tally.unknown),
             _ => self.note_absent(id),
         }
-        self.wish(number, Wish::Begin);
+        self.wish_after_refusal(number);
+    }
+
+    // A client whose transaction is open again commits it once more, and any other begins another one.
+    fn wish_after_refusal(&mut self, number: u32) {
+        let is_open = match self.players.get(number as usize) {
+            Some(player) => player.client.read_version().is_some(),
+            None => false,
+        };
+        let wish = if is_open { Wish::Commit } else { Wish::Begin };
+        self.wish(number, wish);
     }
 
     // A transaction is refused as having no effect, of which that is the id if it was finished.

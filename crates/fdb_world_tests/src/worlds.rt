@@ -2,6 +2,7 @@
 mod acts;
 mod checks;
 mod generated;
+mod growths;
 mod legal;
 mod many;
 mod repeats;

@@ -21,7 +21,7 @@ use Rattle.fdb_machine.specs.machine.AnyStep.{Step}
 use Rattle.fdb_machine.specs.declared.step.AnyStep.TheVariants as step
 
 -- no flag is set among flags that aren't
-none-set : (n i : ℕ) → is_set (replicate n false) i ≡ false
+pub none-set : (n i : ℕ) → is_set (replicate n false) i ≡ false
 none-set zero i = refl
 none-set (suc n) zero = refl
 none-set (suc n) (suc i) = none-set n i

@@ -1,6 +1,7 @@
 -- What becomes of steps where a role has failed, and what a step may leave in which memory ran out.
-use Rattle.std.specs.Prelude.{◌≡◌, true, false, [], ◌∷◌, Some, None, Err, codes}
-use Rattle.fdb_keys.specs.declared.refusal.Refusal.TheVariants.{NoMemory, Unknown, Failed}
+use Rattle.std.specs.Prelude.{◌≡◌, true, false, [], ◌∷◌, Some, None, Result, Ok, Err, codes}
+use Rattle.fdb_keys.specs.declared.refusal.Refusal.{Refusal}
+use Rattle.fdb_keys.specs.declared.refusal.Refusal.TheVariants.{NoMemory, Unknown, Failed, WrongState}
 use Rattle.fdb_mutations.specs.declared.mutation.Mutation.TheVariants.{Set}
 use Rattle.fdb_proxy.specs.declared.config.Config.{Config}
 use Rattle.fdb_client.specs.declared.program.Op.TheVariants as op
@@ -9,8 +10,12 @@ use Rattle.fdb_client.specs.declared.program.Transcript.{Transcript}
 use Rattle.fdb_roles.specs.SmallBooks.{plain, two_in_one_entry, does_nothing, reads_and_sets}
 use Rattle.fdb_machine.specs.headline.Examples.{reads_only}
 use Rattle.fdb_machine.specs.machine.Failures.{Failures, State, none_failed, asks_failed, submits_failed}
-use Rattle.fdb_machine.specs.machine.Machine.{Machine}
-use Rattle.fdb_machine.specs.machine.Worlds.{IsStep, first_state, start, taken_of}
+use Rattle.fdb_machine.specs.machine.InFlight.{in_flight}
+use Rattle.fdb_machine.specs.machine.Machine.{Machine, Transition}
+use Rattle.fdb_machine.specs.machine.Roles.{Resolving}
+use Rattle.fdb_machine.specs.machine.Steps.{next, answer_of, after}
+use Rattle.fdb_machine.specs.machine.Worlds.{IsStep, first_state, idle_proxy, start, taken_of}
+use Rattle.fdb_machine.specs.declared.in_flight.InFlight.{InFlight}
 use Rattle.fdb_machine.specs.declared.step.AnyStep.TheVariants as step
 
 -- one entry, which the proxy decided, and which nobody took
@@ -89,3 +94,46 @@ TheStepsOwnRoleFails =
     × (IsStep (after_failures (none_failed plain)) (step.Resolve 0 0) (Err NoMemory) (first_state plain) → ⊥)
     × (IsStep (after_failures (none_failed plain)) (step.Resolve 0 0) (Err Failed)
     (after_failures (none_failed plain)) → ⊥)
+
+-- the entry is resolved
+abbrev pub resolved : Result Transition Refusal
+resolved = next one_entry (step.Resolve 0 0)
+
+-- the machine with that, and such roles failed
+abbrev pub once_resolved : Failures → State
+once_resolved failed = record { machine = after one_entry resolved; failed = failed }
+
+-- A resolver that answered hasn't failed, and one that has failed doesn't work again.
+abbrev pub WhoAnswersHasNotFailed : Type 0
+WhoAnswersHasNotFailed =
+    IsStep (after_failures (none_failed plain)) (step.Resolve 0 0) (answer_of resolved)
+    (once_resolved (none_failed plain))
+    × (IsStep (after_failures (none_failed plain)) (step.Resolve 0 0) (answer_of resolved)
+    (once_resolved resolver_failed) → ⊥)
+    × IsStep (after_failures resolver_failed) (step.Resolve 0 0) (Err Failed) (after_failures resolver_failed)
+    × (IsStep (after_failures resolver_failed) (step.Resolve 0 0) (answer_of resolved)
+    (once_resolved resolver_failed) → ⊥)
+    × (IsStep (after_failures resolver_failed) (step.Resolve 0 0) (Err Failed)
+    (after_failures (none_failed plain)) → ⊥)
+    × (IsStep (after_failures resolver_failed) (step.Resolve 0 0) (Err NoMemory)
+    (after_failures (none_failed plain)) → ⊥)
+
+-- two resolvers and three logs; the commit proxy has the batch of entry 1 in flight
+abbrev pub one_in_flight : Machine
+one_in_flight = record (start (record plain { logs = 3; resolver_splits = codes "m" ∷ [] })) {
+  commit_proxies = record idle_proxy { stage = Resolving; entry = 1 } ∷ [];
+}
+
+-- A commit proxy that has failed tells nothing of its batch, and one that works tells it, whatever else has failed. One
+-- without a batch is in the wrong state, and there is no other one.
+abbrev pub FailedProxiesTellNothing : Type 0
+FailedProxiesTellNothing =
+    (in_flight (record { machine = one_in_flight; failed = proxy_failed }) 0 ≡ Err Failed)
+    × (in_flight (record { machine = one_in_flight; failed = log_failed }) 0 ≡ Ok told)
+    × (in_flight (record { machine = one_in_flight; failed = none_failed plain }) 0 ≡ Ok told)
+    × (in_flight (record { machine = one_in_flight; failed = proxy_failed }) 1 ≡ Err Unknown)
+    × (in_flight (after_failures proxy_failed) 0 ≡ Err Failed)
+    × (in_flight (after_failures (none_failed plain)) 0 ≡ Err WrongState)
+  where
+    told : InFlight
+    told = record { entry = 1; resolvers = 2; logs = 3 }

@@ -1,4 +1,7 @@
 // Steps as plain numbers. A step holds its keys, and is made in the call that takes it.
+ghost use Rattle.std.specs.Prelude.{◌≡◌, if◌then◌else◌, IfErr};
+ghost use Rattle.fdb_play.specs.random.Runs.{IsAnswered, IsUnmade};
+ghost use Rattle.fdb_play.specs.random.Tallies.{kind_of};
 
 use crate::script::operation::Operation;
 use bytes::Bytes;
@@ -43,31 +46,42 @@ pub enum Change {
 pub type Act = AnyStep<u32, Span, Change>;
 
 /// How many kinds of steps there are.
-pub const KINDS: usize = 20;
+pub const KINDS: usize = 22;
 
-/// The place of the step's kind among all kinds, in the order of `Act`.
-pub fn kind_of(act: Act) -> usize {
+/// The place of the step's kind among all kinds, in the order of `Act`. A read of a snapshot is another kind, behind
+/// that of the other reads.
+pub fn kind_of(act: Act) -> usize
+    ensures { result ≡ kind_of act }
+{
     match act {
         Act::Ask { .. } => 0,
         Act::Grant { .. } => 1,
-        Act::Get { .. } => 2,
-        Act::GetRange { .. } => 3,
-        Act::Write { .. } => 4,
-        Act::AddRead { .. } => 5,
-        Act::AddWrite { .. } => 6,
-        Act::Submit { .. } => 7,
-        Act::Seal { .. } => 8,
-        Act::Resolve { .. } => 9,
-        Act::Verdict { .. } => 10,
-        Act::Decide { .. } => 11,
-        Act::Push { .. } => 12,
-        Act::Logged { .. } => 13,
-        Act::Report { .. } => 14,
-        Act::Answer { .. } => 15,
-        Act::Pull { .. } => 16,
-        Act::Forget { .. } => 17,
-        Act::Pop { .. } => 18,
-        Act::Move { .. } => 19,
+        Act::Get {
+            snapshot: false,
+            ..
+        } => 2,
+        Act::Get { snapshot: true, .. } => 3,
+        Act::GetRange {
+            snapshot: false,
+            ..
+        } => 4,
+        Act::GetRange { snapshot: true, .. } => 5,
+        Act::Write { .. } => 6,
+        Act::AddRead { .. } => 7,
+        Act::AddWrite { .. } => 8,
+        Act::Submit { .. } => 9,
+        Act::Seal { .. } => 10,
+        Act::Resolve { .. } => 11,
+        Act::Verdict { .. } => 12,
+        Act::Decide { .. } => 13,
+        Act::Push { .. } => 14,
+        Act::Logged { .. } => 15,
+        Act::Report { .. } => 16,
+        Act::Answer { .. } => 17,
+        Act::Pull { .. } => 18,
+        Act::Forget { .. } => 19,
+        Act::Pop { .. } => 20,
+        Act::Move { .. } => 21,
     }
 }
 
@@ -79,36 +93,43 @@ fn text_of(key: u32) -> &'static [u8] {
     }
 }
 
-fn key_of(alloc: Global, key: u32) -> Result<Key, Refusal> {
+fn key_of(alloc: Global, key: u32) -> Result<Key, Refusal>
+    ensures { IfErr result IsUnmade }
+{
     Key::new(alloc, text_of(key))
 }
 
-fn range_of(alloc: Global, span: Span) -> Result<KeyRange, Refusal> {
+fn range_of(alloc: Global, span: Span) -> Result<KeyRange, Refusal>
+    ensures { IfErr result IsUnmade }
+{
     KeyRange::new(alloc, text_of(span.begin), text_of(span.end))
 }
 
-fn operate(
-    alloc: Global,
-    operation: Operation,
-    key: u32,
-    operand: u8,
-) -> Result<Mutation, Refusal> {
+fn operate(alloc: Global, operation: Operation, key: u32, operand: u8) -> Result<Mutation, Refusal>
+    ensures { IfErr result IsUnmade }
+{
     let operand = Bytes::copy_from_slice(alloc, &[operand])?;
     let key = key_of(alloc, key)?;
     Ok(operation.on(key, operand))
 }
 
-fn clear(alloc: Global, key: u32) -> Result<Mutation, Refusal> {
+fn clear(alloc: Global, key: u32) -> Result<Mutation, Refusal>
+    ensures { IfErr result IsUnmade }
+{
     let key = key_of(alloc, key)?;
     Ok(Mutation::Clear { key })
 }
 
-fn clear_range(alloc: Global, span: Span) -> Result<Mutation, Refusal> {
+fn clear_range(alloc: Global, span: Span) -> Result<Mutation, Refusal>
+    ensures { IfErr result IsUnmade }
+{
     let range = range_of(alloc, span)?;
     Ok(Mutation::ClearRange { range })
 }
 
-fn mutation_of(alloc: Global, change: Change) -> Result<Mutation, Refusal> {
+fn mutation_of(alloc: Global, change: Change) -> Result<Mutation, Refusal>
+    ensures { IfErr result IsUnmade }
+{
     match change {
         Change::Operate {
             operation,
@@ -125,7 +146,9 @@ fn write(
     alloc: Global,
     session: u32,
     change: Change,
-) -> Result<Answered, Refusal> {
+) -> Result<Answered, Refusal>
+    ensures { IsAnswered 6 world.old.state result world.new.state }
+{
     match mutation_of(alloc, change) {
         Ok(mutation) => world.step(Step::Write { session, mutation }),
         Err(why) => Err(why),
@@ -138,7 +161,9 @@ fn get(
     session: u32,
     key: u32,
     snapshot: bool,
-) -> Result<Answered, Refusal> {
+) -> Result<Answered, Refusal>
+    ensures { IsAnswered (if snapshot then 3 else 2) world.old.state result world.new.state }
+{
     let key = key_of(alloc, key)?;
     world.step(Step::Get {
         session,
@@ -147,12 +172,9 @@ fn get(
     })
 }
 
-fn add_read(
-    world: &mut World,
-    alloc: Global,
-    session: u32,
-    span: Span,
-) -> Result<Answered, Refusal> {
+fn add_read(world: &mut World, alloc: Global, session: u32, span: Span) -> Result<Answered, Refusal>
+    ensures { IsAnswered 7 world.old.state result world.new.state }
+{
     let range = range_of(alloc, span)?;
     world.step(Step::AddRead { session, range })
 }
@@ -162,19 +184,48 @@ fn add_write(
     alloc: Global,
     session: u32,
     span: Span,
-) -> Result<Answered, Refusal> {
+) -> Result<Answered, Refusal>
+    ensures { IsAnswered 8 world.old.state result world.new.state }
+{
     let range = range_of(alloc, span)?;
     world.step(Step::AddWrite { session, range })
 }
 
-fn move_to(world: &mut World, alloc: Global, span: Span, to: u32) -> Result<Answered, Refusal> {
+fn move_to(world: &mut World, alloc: Global, span: Span, to: u32) -> Result<Answered, Refusal>
+    ensures { IsAnswered 21 world.old.state result world.new.state }
+{
     let range = range_of(alloc, span)?;
     world.step(Step::Move { range, to })
 }
 
-// A step that has keys.
-fn take_keyed(world: &mut World, alloc: Global, act: Act) -> Result<Answered, Refusal> {
+fn get_range(
+    world: &mut World,
+    alloc: Global,
+    session: u32,
+    span: Span,
+    limit: u32,
+    reverse: bool,
+    snapshot: bool,
+) -> Result<Answered, Refusal>
+    ensures { IsAnswered (if snapshot then 5 else 4) world.old.state result world.new.state }
+{
+    let range = range_of(alloc, span)?;
+    world.step(Step::GetRange {
+        session,
+        range,
+        limit,
+        reverse,
+        snapshot,
+    })
+}
+
+/// Takes the step in the world. Refused also as its key or its range is.
+pub fn take(world: &mut World, alloc: Global, act: Act) -> Result<Answered, Refusal>
+    ensures { IsAnswered (kind_of act) world.old.state result world.new.state }
+{
     match act {
+        Act::Ask { session, proxy } => world.step(Step::Ask { session, proxy }),
+        Act::Grant { proxy } => world.step(Step::Grant { proxy }),
         Act::Get {
             session,
             key,
@@ -182,33 +233,14 @@ fn take_keyed(world: &mut World, alloc: Global, act: Act) -> Result<Answered, Re
         } => get(world, alloc, session, key, snapshot),
         Act::GetRange {
             session,
-            range: span,
+            range,
             limit,
             reverse,
             snapshot,
-        } => {
-            let range = range_of(alloc, span)?;
-            world.step(Step::GetRange {
-                session,
-                range,
-                limit,
-                reverse,
-                snapshot,
-            })
-        }
+        } => get_range(world, alloc, session, range, limit, reverse, snapshot),
         Act::Write { session, mutation } => write(world, alloc, session, mutation),
         Act::AddRead { session, range } => add_read(world, alloc, session, range),
         Act::AddWrite { session, range } => add_write(world, alloc, session, range),
-        Act::Move { range, to } => move_to(world, alloc, range, to),
-        _ => Err(Refusal::Unknown),
-    }
-}
-
-/// Takes the step in the world. Refused also as its key or its range is.
-pub fn take(world: &mut World, alloc: Global, act: Act) -> Result<Answered, Refusal> {
-    match act {
-        Act::Ask { session, proxy } => world.step(Step::Ask { session, proxy }),
-        Act::Grant { proxy } => world.step(Step::Grant { proxy }),
         Act::Submit { session, proxy } => world.step(Step::Submit { session, proxy }),
         Act::Seal { proxy, advance } => world.step(Step::Seal { proxy, advance }),
         Act::Resolve { entry, resolver } => world.step(Step::Resolve { entry, resolver }),
@@ -221,6 +253,6 @@ pub fn take(world: &mut World, alloc: Global, act: Act) -> Result<Answered, Refu
         Act::Pull { shard, limit } => world.step(Step::Pull { shard, limit }),
         Act::Forget { shard, version } => world.step(Step::Forget { shard, version }),
         Act::Pop { shard } => world.step(Step::Pop { shard }),
-        keyed => take_keyed(world, alloc, keyed),
+        Act::Move { range, to } => move_to(world, alloc, range, to),
     }
 }

@@ -1,12 +1,14 @@
 // Which step comes next. Most steps go on with what is in flight; some come again or too early, or name a role, an
 // entry, a session or a key that isn't there.
-ghost use Rattle.std.specs.Prelude.{◌<◌};
+ghost use Rattle.std.specs.Prelude.{◌≡◌, ◌<◌, ◌%◌};
+ghost use Rattle.rand_pcg.specs.Lcg.{increment_of, started};
+ghost use Rattle.rand_pcg.specs.Pcg.{multiplier_64, pcg32};
 
 use crate::random::acts::{Act, Change, Span};
 use crate::script::operation::{OPERATIONS, Operation};
 use fdb_core::{Answered, InFlight, World};
 use fdb_keys::Refusal;
-use rand_core::Rng;
+use rand_core::utils::NextWord;
 use rand_pcg::Pcg32;
 
 /// How many commit proxies there are, and as many read-version proxies.
@@ -92,7 +94,9 @@ fn is_behind(answer: &Result<Answered, Refusal>) -> bool {
 
 impl Drawing {
     /// Draws from the seed.
-    pub fn new(seed: u64) -> Self {
+    pub fn new(seed: u64) -> Self
+        ensures { result.random ≡ started 64 multiplier_64 seed (increment_of 64 1) }
+    {
         Drawing {
             random: Pcg32::new(seed, 1),
             last: Act::Grant { proxy: 0 },
@@ -101,8 +105,11 @@ impl Drawing {
         }
     }
 
-    /// The next step.
-    pub fn draw(&mut self, world: &World) -> Act {
+    /// The next step. In one of 16 cases it is the last one again.
+    pub fn draw(&mut self, world: &World) -> Act
+        ensures again { (pcg32 self.old.random).0 % 16 ≡ 0 → result ≡ self.old.last }
+        ensures last { result ≡ self.new.last }
+    {
         self.driven = None;
         self.last = match self.below(16) {
             0 => self.last,
@@ -141,12 +148,14 @@ impl Drawing {
         }
     }
 
-    // A number below the count.
+    // A number below the count, of the next word.
     fn below(&mut self, count: u32) -> u32
         requires { 0 < count }
-        ensures { result < count }
+        ensures bound { result < count }
+        ensures drawn { result ≡ (pcg32 self.old.random).0 % count }
+        ensures next { self.new ≡ record self.old { random = (pcg32 self.old.random).1 } }
     {
-        self.random.next_u32() % count
+        self.random.next_word() % count
     }
 
     // In one of so many cases.

@@ -3,7 +3,7 @@ ghost use Rattle.std.specs.Prelude.{◌≡◌, IfOk, OnOk, string_bytes};
 ghost use Rattle.serde_json.specs.Data.{no_members, object};
 ghost use Rattle.serde_json.specs.View.{members_view, view};
 ghost use Rattle.serde_json.specs.Written.{compact_text};
-ghost use Rattle.fdb_play.specs.Random.{report_members, report_of, report_status};
+ghost use Rattle.fdb_play.specs.random.Reports.{report_members, report_of, report_status};
 
 use crate::random::tally::Tally;
 use serde_json::{Map, Value, put};
@@ -39,7 +39,7 @@ impl Report {
         ensures { result ≡ report_of tally.now steps checked }
     {
         Report {
-            aborted: u64::from(tally.conflicting) + u64::from(tally.old),
+            aborted: u64::from(tally.conflicting) + u64::from(tally.too_old),
             acknowledged: u64::from(tally.committed) + u64::from(tally.read_only),
             checked: checked.unwrap_or(0),
             ok: checked.is_some(),

@@ -4,8 +4,8 @@ ghost use Rattle.fdb_keys.specs.declared.refusal.Refusal.TheVariants.{BookFull, 
 ghost use Rattle.fdb_book.specs.Fronts.{IsPrefix};
 ghost use Rattle.fdb_roles.specs.Spots.{spot_version};
 ghost use Rattle.fdb_client.specs.Programs.{is_read_only};
-ghost use Rattle.fdb_sections.specs.Commits.{CommitEnds, IsByFull, IsByOutcome, IsToldSo};
-ghost use Rattle.fdb_sections.specs.Commits.{is_handed_back, is_shown, plain_reason};
+ghost use Rattle.fdb_sections.specs.Commits.{CommitEnds, IsByFull, IsByOutcome, IsByReason, IsToldSo};
+ghost use Rattle.fdb_sections.specs.Commits.{is_handed_back, is_shown, is_untaken, plain_reason};
 ghost use Rattle.fdb_sections.specs.Sessions.{IsOpenAt};
 
 use crate::known_front::KnownFront;
@@ -18,8 +18,15 @@ use crate::session_state::submitted::Submitted;
 use fdb_client::Transcript;
 use fdb_keys::{Refusal, Refused};
 
-// What a session is told that is refused with no front to show why. A reason that a front would show, that memory ran
-// out on the way, and what no commit is refused for leave open what became of the transaction.
+// Whether a request that is refused so was never taken, since memory ran out for that.
+fn is_untaken(why: Refusal) -> bool
+    ensures { result ≡ is_untaken why }
+{
+    matches!(why, Refusal::NoMemory)
+}
+
+// What a session is told that is refused with no front to show why. A reason that a front would show, and what no commit
+// is refused for, leave open what became of the transaction.
 fn plain_reason(why: Refusal) -> Refusal
     ensures reason { result ≡ plain_reason why }
     ensures plain { is_shown result ≡ false }
@@ -38,7 +45,7 @@ fn plain_reason(why: Refusal) -> Refusal
 impl<B: ClusterName> SessionState<B> {
     /// Has the receipt of a transaction that it finished, which wrote nothing: the mark is no less than the version
     /// that it read at. It takes no memory.
-    pub fn acknowledge(&mut self, receipt: Receipt<B>) -> Receipt<B>
+    pub(crate) fn acknowledge(&mut self, receipt: Receipt<B>) -> Receipt<B>
         requires { receipt.front ≡ self.old.front }
         ensures same { result ≡ receipt }
         ensures mark { self.new ≡ record self.old { mark = max self.old.mark (spot_version receipt.spot) } }
@@ -70,12 +77,12 @@ impl<B: ClusterName> SessionState<B> {
         submitted: Submitted,
         message: &OutcomeMessage<B>,
     ) -> Result<Receipt<B>, Refused<Option<Transcript>>>
-        requires wrote { is_read_only submitted.transcript ≡ false }
+        requires wrote { is_read_only submitted.transaction ≡ false }
         requires opened { IsOpenAt B.config.resolver_splits self.old.number self.old.next_number self.old.front
-            submitted.transcript }
+            submitted.transaction }
         requires none { self.old.current ≡ None }
-        ensures ends { CommitEnds B.config self.old submitted.transcript result self.new }
-        ensures told { IsByOutcome self.old message.now submitted.transcript result self.new }
+        ensures ends { CommitEnds B.config self.old submitted.transaction result self.new }
+        ensures told { IsByOutcome self.old message.now submitted.transaction result self.new }
     {
         match self.settle(submitted, message) {
             Ok(receipt) => Ok(receipt),
@@ -86,20 +93,44 @@ impl<B: ClusterName> SessionState<B> {
         }
     }
 
-    /// Ends a transaction of the session, none of which is open any more, by what its commit proxy tells.
-    pub fn end(
+    // The request is refused with no front to show why: the transaction is open again where the request was never taken,
+    // and ends else.
+    fn end_refused(
+        &mut self,
+        submitted: Submitted,
+        why: Refusal,
+    ) -> Result<Receipt<B>, Refused<Option<Transcript>>>
+        requires opened { IsOpenAt B.config.resolver_splits self.old.number self.old.next_number self.old.front
+            submitted.transaction }
+        requires none { self.old.current ≡ None }
+        ensures ends { CommitEnds B.config self.old submitted.transaction result self.new }
+        ensures told { IsByReason self.old submitted.transaction why result self.new }
+    {
+        if is_untaken(why) {
+            self.reopen(submitted);
+            return Err(Refused { why, back: None });
+        }
+        Err(Refused {
+            why: plain_reason(why),
+            back: Some(submitted.into_transcript()),
+        })
+    }
+
+    /// Ends a transaction of the session, none of which is open any more, by what its commit proxy tells. It is open
+    /// again where the proxy never took the request, since memory ran out.
+    pub(crate) fn end(
         &mut self,
         book: u32,
         submitted: Submitted,
         told: CommitReply<B>,
     ) -> Result<Receipt<B>, Refused<Option<Transcript>>>
         requires book { book ≡ B.config.book }
-        requires wrote { is_read_only submitted.transcript ≡ false }
+        requires wrote { is_read_only submitted.transaction ≡ false }
         requires opened { IsOpenAt B.config.resolver_splits self.old.number self.old.next_number self.old.front
-            submitted.transcript }
+            submitted.transaction }
         requires none { self.old.current ≡ None }
-        ensures ends { CommitEnds B.config self.old submitted.transcript result self.new }
-        ensures told { IsToldSo B.config self.old submitted.transcript told result self.new }
+        ensures ends { CommitEnds B.config self.old submitted.transaction result self.new }
+        ensures told { IsToldSo B.config self.old submitted.transaction told result self.new }
     {
         match told {
             CommitReply::Outcome(message) => self.settle_or_back(submitted, &message),
@@ -107,10 +138,7 @@ impl<B: ClusterName> SessionState<B> {
                 why: self.see_full(book, &front),
                 back: Some(submitted.into_transcript()),
             }),
-            CommitReply::Refused(why) => Err(Refused {
-                why: plain_reason(why),
-                back: Some(submitted.into_transcript()),
-            }),
+            CommitReply::Refused(why) => self.end_refused(submitted, why),
         }
     }
 }

@@ -1,17 +1,18 @@
 // How a session's transaction ends: it is finished, submitted if it wrote anything, and settled by what became of it.
-ghost use Rattle.std.specs.Prelude.{◌≡◌, ◌<◌, ◌≤◌, ◌↔◌, ◌⊎◌, ◌^◌, None, Some, IsTrue, IfOk, IfErr, IfSome, OnOk};
+ghost use Rattle.std.specs.Prelude.{◌≡◌, ◌<◌, ◌≤◌, ◌↔◌, ◌⊎◌, ◌^◌, true, None, Some, IsTrue, IfOk, IfErr, OnOk};
 ghost use Rattle.std.specs.Prelude.{OnErr, length};
 ghost use Rattle.std.specs.Option.{option_copied};
 ghost use Rattle.fdb_keys.specs.Answers.{Answers, AnswersExactly};
-ghost use Rattle.fdb_keys.specs.declared.refusal.Refusal.TheVariants.{CommitUnknownResult};
-ghost use Rattle.fdb_mutations.specs.Maps.{Map};
+ghost use Rattle.fdb_keys.specs.declared.refusal.Refusal.TheVariants.{CommitUnknownResult, NoMemory};
 ghost use Rattle.fdb_txn.specs.book.Book.{last_version};
 ghost use Rattle.fdb_book.specs.Fronts.{IsPrefix};
-ghost use Rattle.fdb_roles.specs.Spots.{AnsweredOn, spot_version};
-ghost use Rattle.fdb_roles.specs.Sessions.{OfOpen, Finishes};
-ghost use Rattle.fdb_sections.specs.Endings.{ended_on, Ends, MayEndOn, MaySettle};
+ghost use Rattle.fdb_roles.specs.Spots.{spot_version};
+ghost use Rattle.fdb_client.specs.Programs.{is_read_only};
+ghost use Rattle.fdb_roles.specs.Sessions.{OfOpen, submit_fault};
+ghost use Rattle.fdb_sections.specs.Endings.{Ends, IsEnded, MaySettle};
 ghost use Rattle.fdb_sections.specs.Receipts.{IsOutcome, IsReceipt, IsToldOf, IsTurnedDown};
-ghost use Rattle.fdb_sections.specs.Receipts.{spot_told, settle_fault, transaction_told};
+ghost use Rattle.fdb_sections.specs.Receipts.{read_only_receipt, spot_told, settle_fault, transaction_told};
+ghost use Rattle.fdb_sections.specs.declared.session_state.settling.Ended.TheVariants.{Acknowledged};
 ghost use Rattle.fdb_sections.specs.Sessions.{longer, seeing, with_current, IsOpenAt, Settles, TakesOutcome};
 
 use crate::known_front::KnownFront;
@@ -20,59 +21,57 @@ use crate::name::ClusterName;
 use crate::receipt::Receipt;
 use crate::session_state::submitted::Submitted;
 use crate::session_state::{SessionState, share_longer};
-use fdb_client::{Finished, Transcript, Txn};
+use fdb_client::{Transcript, Txn};
 use fdb_keys::{Refusal, Refused};
 use fdb_proxy::Outcome;
 use fdb_txn::{Sealed, Spot};
 use std::mem;
 
-/// What a session's transaction comes to once it is finished.
+/// What a session's transaction comes to that is to commit.
 #[derive(Drop)]
-pub enum Ended<B: ClusterName> {
+pub(crate) enum Ended<B: ClusterName> {
     /// It wrote nothing, and has its receipt.
     Acknowledged(Receipt<B>),
-    /// It is to be committed.
-    ToCommit(Sealed, Transcript),
+    /// It is submitted, as this request.
+    ToCommit(Sealed, Submitted),
 }
 
-// Finishes what is open, if anything is, which stays open where that is refused.
-fn finish_current(current: &mut Option<Txn>) -> Result<Finished, Refusal>
-    ensures answers { OfOpen current.old result (Finishes result) }
-    ensures ended { OnOk result (current.new ≡ None) }
-    ensures refused { OnErr result (current.new ≡ current.old) }
+// What the transaction comes to on the front, on which it has its receipt if it wrote nothing. A refusal hands it back.
+fn end_on<B: ClusterName>(front: &KnownFront<B>, transaction: Txn) -> Result<Ended<B>, Refused<Txn>>
+    requires { is_read_only transaction ≡ true
+        → IsReceipt B.config.resolver_splits (read_only_receipt front.now transaction) }
+    ensures ended { IfOk result (λ ended. IsEnded front.now transaction ended × (submit_fault transaction ≡ None)) }
+    ensures back { IfErr result (λ refused. (refused.back ≡ transaction)
+        × ((refused.why ≡ NoMemory) ⊎ (submit_fault transaction ≡ Some refused.why))) }
 {
-    match mem::replace(current, None) {
-        Some(txn) => finish_or_keep(current, txn),
-        None => Err(Refusal::NoTransaction),
+    if transaction.is_read_only() {
+        return acknowledge_on(front, transaction);
+    }
+    match Submitted::of(transaction) {
+        Ok((request, submitted)) => Ok(Ended::ToCommit(request, submitted)),
+        Err(refused) => Err(refused),
     }
 }
 
-// Finishes the transaction, which is kept where that is refused.
-fn finish_or_keep(current: &mut Option<Txn>, txn: Txn) -> Result<Finished, Refusal>
-    ensures answers { Finishes result txn }
-    ensures ended { OnOk result (current.new ≡ current.old) }
-    ensures kept { OnErr result (current.new ≡ Some txn) }
+// The receipt of a transaction that wrote nothing, at its read version on the front.
+fn acknowledge_on<B: ClusterName>(
+    front: &KnownFront<B>,
+    transaction: Txn,
+) -> Result<Ended<B>, Refused<Txn>>
+    requires { IsReceipt B.config.resolver_splits (read_only_receipt front.now transaction) }
+    ensures ended { IfOk result (λ ended. ended ≡ Acknowledged (read_only_receipt front.now transaction)) }
+    ensures back { IfErr result (λ refused. (refused.back ≡ transaction) × (refused.why ≡ NoMemory)) }
 {
-    match txn.finish() {
-        Ok(finished) => Ok(finished),
-        Err(refused) => {
-            drop(mem::replace(current, Some(refused.back)));
-            Err(refused.why)
+    match front.share() {
+        Ok(front) => {
+            let version = transaction.read_version();
+            let transcript = transaction.into_transcript();
+            Ok(Ended::Acknowledged(Receipt::new(front, Spot::ReadOnly { version }, transcript)))
         }
-    }
-}
-
-// What is left to do of what is finished; where that is nothing, its receipt on the front.
-fn ended_on<B: ClusterName>(front: KnownFront<B>, finished: Finished) -> Ended<B>
-    requires { MayEndOn B.config.resolver_splits front finished }
-    ensures { result ≡ ended_on front finished }
-{
-    match finished {
-        Finished::ReadOnly(transcript) => {
-            let version = transcript.read_version;
-            Ended::Acknowledged(Receipt::new(front, Spot::ReadOnly { version }, transcript))
-        }
-        Finished::ToCommit(sealed, transcript) => Ended::ToCommit(sealed, transcript),
+        Err(why) => Err(Refused {
+            why,
+            back: transaction,
+        }),
     }
 }
 
@@ -92,7 +91,7 @@ fn transaction_told<B: ClusterName>(message: &OutcomeMessage<B>) -> Option<&Seal
 
 // Whether the message is of what was submitted. It takes no memory.
 fn is_told_of<B: ClusterName>(message: &OutcomeMessage<B>, submitted: &Submitted) -> bool
-    ensures { IsTrue result ↔ IsToldOf message.now submitted.now.transcript }
+    ensures { IsTrue result ↔ IsToldOf message.now submitted.now.transaction }
 {
     // A spot has 32 bits for the number of the entry.
     if message.front.len() > 4_294_967_296 {
@@ -111,7 +110,7 @@ fn fronts_with<B: ClusterName>(
     message: &OutcomeMessage<B>,
     submitted: &Submitted,
 ) -> Result<(KnownFront<B>, KnownFront<B>), Refusal>
-    ensures told { OnOk result (IsToldOf message.now submitted.now.transcript) }
+    ensures told { OnOk result (IsToldOf message.now submitted.now.transaction) }
     ensures longer { IfOk result (λ fronts. (fronts.0 ≡ longer own.now message.now.front) × (fronts.1 ≡ fronts.0)) }
     ensures begins { IfOk result (λ fronts. IsPrefix own.now fronts.0 × IsPrefix message.now.front fronts.0) }
     ensures reaches { IfOk result (λ fronts. (last_version own.now ≤ last_version fronts.0)
@@ -162,33 +161,36 @@ impl<B: ClusterName> SessionState<B> {
         Ok(())
     }
 
-    /// Finishes the open transaction, and answers what is left to do of it; none is open then. What it was answered
-    /// stands on the front. Refused as `NoTransaction` where none is open, as `TransactionTooLarge` where what is to be
-    /// committed has more than 10,000,000 bytes, and as `NoMemory`; then nothing changes.
-    pub(crate) fn finish(&mut self) -> Result<Finished, Refusal>
-        ensures answers { OfOpen self.old.current result (Finishes result) }
-        ensures opened { IfSome self.old.current
-            (IsOpenAt B.config.resolver_splits self.old.number self.old.next_number self.old.front) }
-        ensures ended { OnOk result (self.new ≡ with_current self.old None) }
-        ensures refused { OnErr result (self.new ≡ self.old) }
-    {
-        finish_current(&mut self.current)
-    }
-
-    /// The same with a receipt of what wrote nothing, at its read version on the front, for which memory is asked
-    /// before anything changes. What is to be committed may be settled. It takes the time of `Txn::finish`.
-    pub fn finish_or_receipt(&mut self) -> Result<Ended<B>, Refusal>
+    /// Ends the open transaction; none is open then. What wrote nothing has its receipt, at its read version on the
+    /// front, and anything else is submitted, and may be settled. Refused as `NoTransaction` where none is open, as
+    /// `TransactionTooLarge` where what is to be committed has more than 10,000,000 bytes, and as `NoMemory`; then
+    /// nothing changes. It takes the time of `Txn::request`.
+    pub(crate) fn submit(&mut self) -> Result<Ended<B>, Refusal>
         ensures answers { OfOpen self.old.current result (Ends self.old.front result) }
         ensures settled { IfOk result (MaySettle B.config.resolver_splits self.new) }
         ensures ended { OnOk result (self.new ≡ with_current self.old None) }
         ensures refused { OnErr result (self.new ≡ self.old) }
     {
-        if self.current.is_none() {
+        let Some(transaction) = mem::replace(&mut self.current, None) else {
             return Err(Refusal::NoTransaction);
+        };
+        match end_on(&self.front, transaction) {
+            Ok(ended) => Ok(ended),
+            Err(refused) => {
+                drop(mem::replace(&mut self.current, Some(refused.back)));
+                Err(refused.why)
+            }
         }
-        let front = self.front.share()?;
-        let finished = self.finish()?;
-        Ok(ended_on(front, finished))
+    }
+
+    /// The transaction that was submitted is open again. It takes no memory.
+    pub(crate) fn reopen(&mut self, submitted: Submitted)
+        requires { IsOpenAt B.config.resolver_splits self.old.number self.old.next_number self.old.front
+            submitted.transaction }
+        ensures { self.new ≡ with_current self.old (Some submitted.transaction) }
+    {
+        let transaction = submitted.into_transaction();
+        drop(mem::replace(&mut self.current, Some(transaction)));
     }
 
     // Takes what became of the transaction. Refused as `settle` is.
@@ -198,13 +200,13 @@ impl<B: ClusterName> SessionState<B> {
         message: &OutcomeMessage<B>,
     ) -> Result<(KnownFront<B>, Spot), Refusal>
         requires { IsOpenAt B.config.resolver_splits self.old.number self.old.next_number self.old.front
-            submitted.now.transcript }
-        ensures answers { TakesOutcome self.old message.now submitted.now.transcript result self.new }
+            submitted.now.transaction }
+        ensures answers { TakesOutcome self.old message.now submitted.now.transaction result self.new }
         ensures begins { IsPrefix self.old.front self.new.front }
         ensures given { IfOk result (λ given. IsReceipt B.config.resolver_splits
-            (record { front = given.0; spot = given.1; transcript = submitted.now.transcript })) }
+            (record { front = given.0; spot = given.1; transcript = submitted.now.transaction })) }
         ensures turned { IfErr result (λ why. (why ≡ CommitUnknownResult)
-            ⊎ IsTurnedDown B.config.resolver_splits self.new.front submitted.now.transcript why) }
+            ⊎ IsTurnedDown B.config.resolver_splits self.new.front submitted.now.transaction why) }
     {
         let Ok((front, share)) = fronts_with(&self.front, message, submitted) else {
             return Err(Refusal::CommitUnknownResult);
@@ -235,15 +237,15 @@ impl<B: ClusterName> SessionState<B> {
         message: &OutcomeMessage<B>,
     ) -> Result<Receipt<B>, Refused<Transcript>>
         requires { IsOpenAt B.config.resolver_splits self.old.number self.old.next_number self.old.front
-            submitted.transcript }
-        ensures answers { Settles self.old message.now submitted.transcript result self.new }
+            submitted.transaction }
+        ensures answers { Settles self.old message.now submitted.transaction result self.new }
         ensures begins { IsPrefix self.old.front self.new.front }
         ensures receipt { IfOk result (IsReceipt B.config.resolver_splits) }
         ensures goes_on { IfOk result (λ receipt. IsPrefix self.old.front receipt.front) }
-        ensures after { IfOk result (λ receipt. submitted.transcript.read_version < spot_version receipt.spot) }
+        ensures after { IfOk result (λ receipt. submitted.transaction.read_version < spot_version receipt.spot) }
         ensures marked { IfOk result (λ receipt. spot_version receipt.spot ≤ self.new.mark) }
         ensures turned { IfErr result (λ refused. (refused.why ≡ CommitUnknownResult)
-            ⊎ IsTurnedDown B.config.resolver_splits self.new.front submitted.transcript refused.why) }
+            ⊎ IsTurnedDown B.config.resolver_splits self.new.front submitted.transaction refused.why) }
     {
         let taken = self.take_outcome(&submitted, message);
         let transcript = submitted.into_transcript();

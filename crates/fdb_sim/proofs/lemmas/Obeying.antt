@@ -3,7 +3,7 @@ use Rattle.std.proofs.Common.{inl, inr, ℕ, List, Option, Ok, Err, ◌≡◌}
 use Rattle.clap.specs.Words.{Text, kind_of}
 use Rattle.clap.specs.declared.error.Error.{Error}
 use Rattle.clap.specs.declared.error.kind.ErrorKind.TheVariants.{OutOfMemory}
-use Rattle.fdb_play.specs.Random.{RunPrints}
+use Rattle.fdb_play.specs.random.Reports.{RunPrints}
 use Rattle.fdb_play.specs.play.Scripts.{Knows, Plays, Printed}
 use Rattle.fdb_load.specs.declared.load.Load.{Load}
 use Rattle.fdb_load.specs.Reports.{PrintsEnd}

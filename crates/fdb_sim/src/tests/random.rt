@@ -14,8 +14,8 @@ fn has_refused(tally: &Tally, code: u32) -> bool {
         .any(|(known, count)| *known == code && *count > 0)
 }
 
-// How often this or that came that each run should have: steps of each kind that were accepted, refusals of the usual
-// codes, and each outcome of a transaction.
+// How often this or that came that each run should have: steps of each kind that were accepted, of which the reads of a
+// snapshot are two, refusals of the usual codes, and each outcome of a transaction.
 fn has_all(tally: &Tally) -> bool {
     let codes = [1009, 9002, 9003, 9014, 9016];
     tally.accepted.iter().all(|count| *count > 0)
@@ -23,7 +23,24 @@ fn has_all(tally: &Tally) -> bool {
         && tally.committed > 20
         && tally.read_only > 0
         && tally.conflicting > 0
-        && tally.old > 0
+        && tally.too_old > 0
+}
+
+// The sum of the counts.
+fn sum_of(counts: &[u32]) -> u64 {
+    counts
+        .iter()
+        .fold(0, |sum: u64, count| sum.saturating_add(u64::from(*count)))
+}
+
+// Whether each step is counted once, a refused one with its code, and the report says what is counted.
+fn is_told(tally: &Tally, report: &Report) -> bool {
+    let refused = sum_of(tally.refusals.as_slice());
+    let accepted = sum_of(tally.accepted.as_slice());
+    u64::from(report.refused) == refused
+        && refused.saturating_add(accepted) == u64::from(report.steps)
+        && report.aborted == sum_of(&[tally.conflicting, tally.too_old])
+        && report.acknowledged == sum_of(&[tally.committed, tally.read_only])
 }
 
 // Whether the check held, and compared all transactions that were answered with their spot.
@@ -33,7 +50,9 @@ fn is_checked(report: &Report) -> bool {
 
 fn is_whole(alloc: Global, seed: u64) -> bool {
     match run_steps(alloc, seed, STEPS, &mut Nobody) {
-        Ok((tally, report)) => has_all(&tally) && is_checked(&report),
+        Ok((tally, report)) => {
+            has_all(&tally) && is_told(&tally, &report) && is_checked(&report)
+        }
         Err(_stop) => false,
     }
 }
@@ -62,5 +81,19 @@ fn a_seed_gives_one_line(rt: HostRuntime) -> Result<(), Fail> {
     assert!(rt; first.0 == 0 && first.1.as_slice() == again.1.as_slice());
     assert!(rt; first.1.as_slice() != other.1.as_slice());
     assert!(rt; first.1.starts_with(b"{\"aborted\":") && first.1.ends_with(b",\"steps\":1000}\n"));
+    Ok(())
+}
+
+// Two seeds each that differ in their lowest bits, in their higher half alone, and in their highest bit alone.
+const SEEDS: [(u64, u64); 4] = [(2, 3), (4, 6), (7, 7 | 1 << 32), (7, 7 | 1 << 63)];
+
+#[test]
+fn other_seeds_give_other_lines(rt: HostRuntime) -> Result<(), Fail> {
+    for (seed, other) in SEEDS {
+        let (status, line) = output_of(&rt, seed)?;
+        let (other_status, other_line) = output_of(&rt, other)?;
+        assert!(rt; (status, other_status) == (0, 0));
+        assert!(rt; line.as_slice() != other_line.as_slice(), "at {seed}");
+    }
     Ok(())
 }

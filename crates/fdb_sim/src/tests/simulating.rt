@@ -1,11 +1,12 @@
 // Simulated databases, each by an order of acts that is drawn from a seed.
 use fdb_keys::{Items, Key, Refusal};
 use fdb_runtime::{Blank, Config};
-use fdb_simulate::{Plan, Tally, simulate};
+use fdb_simulate::{Plan, Simulation, Tally, run_simulation, simulate};
 use std::alloc::Global;
 use std::fmt::Debug;
 use std::marker::Brand;
 use std::process::Abort;
+use std::str;
 use std::test::Fail;
 
 // The test fails where it isn't what is wanted.
@@ -182,5 +183,90 @@ fn what_is_refused_comes_of_conflicts_age_and_failures(rt: HostRuntime) -> Resul
         (turned_down > 0, forgotten > 0, unknown > 0),
         (true, true, true),
     );
+    Ok(())
+}
+
+// The status of what is asked for by the seed, and the line that it prints.
+fn printed_by(rt: &HostRuntime, seed: u64) -> Result<(u8, Vec<u8>), Fail> {
+    let asked = Simulation {
+        seed,
+        steps: 4_000,
+        clients: 16,
+        resolvers: 2,
+        proxies: 2,
+    };
+    let mut out: Vec<u8> = Vec::new(rt.alloc());
+    let status = run_simulation(rt.alloc(), &asked, &mut out)?;
+    Ok((status, out))
+}
+
+// The number with which the text begins.
+fn number_at(text: &str) -> u64 {
+    let mut number: u64 = 0;
+    for byte in text.as_bytes() {
+        if !byte.is_ascii_digit() {
+            return number;
+        }
+        let digit = u64::from(byte.saturating_sub(b'0'));
+        number = number.saturating_mul(10).saturating_add(digit);
+    }
+    number
+}
+
+// The number behind the name in the line, 0 where the name isn't there.
+fn number_in(line: &[u8], name: &str) -> u64 {
+    match str::from_utf8(line).unwrap_or("").split_once(name) {
+        Some((_before, rest)) => number_at(rest),
+        None => 0,
+    }
+}
+
+// The names of what some seeds have.
+const COUNTS: [&str; 6] = [
+    "\"aborted\":",
+    "\"acknowledged\":",
+    "\"checked\":",
+    "\"entries\":",
+    "\"refused\":",
+    "\"unknown\":",
+];
+
+fn counts_in(line: &[u8]) -> [u64; 6] {
+    COUNTS.map(|name| number_in(line, name))
+}
+
+#[test]
+fn each_count_is_printed_of_some_seeds(rt: HostRuntime) -> Result<(), Fail> {
+    let mut had: [bool; 6] = [false; 6];
+    for seed in 0..8 {
+        let (status, line) = printed_by(&rt, seed)?;
+        let counts = counts_in(line.as_slice());
+        same(
+            &rt,
+            (seed, status, counts[1] > 0, counts[1] == counts[2]),
+            (seed, 0, true, true),
+        );
+        for (has, count) in had.iter_mut().zip(counts) {
+            *has = *has || count > 0;
+        }
+    }
+    same(&rt, had, [true; 6]);
+    Ok(())
+}
+
+// Two seeds each that differ in their lowest bit, in their higher half alone, and in their highest bit alone.
+const SEEDS: [(u64, u64); 3] = [(2, 3), (7, 7 | 1 << 32), (7, 7 | 1 << 63)];
+
+#[test]
+fn other_seeds_print_other_counts(rt: HostRuntime) -> Result<(), Fail> {
+    for (seed, other) in SEEDS {
+        let (_status, line) = printed_by(&rt, seed)?;
+        let (_status, again) = printed_by(&rt, seed)?;
+        let (_status, other) = printed_by(&rt, other)?;
+        let counts = counts_in(line.as_slice());
+        let is_other = counts != counts_in(other.as_slice());
+        let is_again = line.as_slice() == again.as_slice();
+        same(&rt, (seed, is_other, is_again), (seed, true, true));
+    }
     Ok(())
 }

@@ -13,10 +13,10 @@ use fdb_txn::{Spot, TxnId};
 use std::alloc::Global;
 
 // Session 0 asks, and is served.
-const BEFORE: [Act; 2] = [Act::Ask(0, 0), Act::Grant(0)];
+pub(super) const BEFORE: [Act; 2] = [Act::Ask(0, 0), Act::Grant(0)];
 
 // It submits, and is committed in the first entry, at version 100. The shard pulls, and session 1 reads a.
-const AFTER: [Act; 16] = [
+pub(super) const AFTER: [Act; 16] = [
     Act::Submit(0, 0),
     Act::Seal(0, 100),
     Act::Resolve(0, 0),

@@ -6,6 +6,7 @@ use Rattle.fdb_machine.proofs.headline.ExamplesLemmas.{each_operation_is_noted, 
 use Rattle.fdb_roles.proofs.Exports.{an_empty_shard_does_not_serve}
 use Rattle.fdb_machine.proofs.headline.FailureExamplesLemmas.{failed_roles_refuse, reads_ask_their_shards}
 use Rattle.fdb_machine.proofs.headline.FailureExamplesLemmas.{readers_use_no_proxy, the_steps_own_role_fails}
+use Rattle.fdb_machine.proofs.headline.FailureExamplesLemmas.{who_answers_has_not_failed, failed_proxies_tell_nothing}
 use Rattle.fdb_machine.proofs.headline.MoveExamplesLemmas.{moves_take_effect_with_the_next_entry}
 use Rattle.fdb_machine.proofs.headline.MoveExamplesLemmas.{the_span_begins_at_the_window, the_later_move_counts}
 use Rattle.fdb_machine.proofs.headline.AnswerExamplesLemmas.{other_versions_are_no_answers}
@@ -46,4 +47,6 @@ returns c = record {
   asked = reads_ask_their_shards;
   readers = readers_use_no_proxy;
   own = the_steps_own_role_fails;
+  answered = who_answers_has_not_failed;
+  in_flight = failed_proxies_tell_nothing;
 }

@@ -2,6 +2,7 @@ use Rattle.std.proofs.Common.{◌≡◌, ◌∙◌, sym, ap, subst, refl, arith,
 use Rattle.std.proofs.Common.{Option, Some, None, length}
 use Rattle.std.specs.Prelude.{◌⊎◌, true, false, if◌then◌else◌}
 use Rattle.fdb_keys.specs.declared.refusal.Refusal.TheVariants as refusal
+use Rattle.fdb_keys.specs.declared.refusal.Refused.{Refused}
 use Rattle.fdb_keys.specs.Points.{point_lt}
 use Rattle.fdb_keys.specs.Insertion as insertion
 use Rattle.fdb_txn.specs.book.Transactions.{Transaction}
@@ -124,3 +125,14 @@ returns-clause-full_books c = (
 
 pub returns-clause-endings : goal.returns-clause-endings
 returns-clause-endings c = (refl, refl, refl, refl, refl, refl, refl, refl)
+
+pub returns-clause-untaken : goal.returns-clause-untaken
+returns-clause-untaken c = (
+  (λ is. (refl, refl), λ wrong. absurd cc),
+  (λ is. let same : None ≡ Some (opened 100) = ap (λ (it : Session). it.current) (is.0 refl).1 in absurd cc),
+  (λ is. let why : refusal.CommitUnknownResult ≡ refusal.NoMemory = ap (λ (it : Refused (Option Transcript)). it.why)
+      (is.0 refl).0 in absurd cc),
+  (λ wrong. absurd cc, λ is. (refl, refl)),
+  (λ is. let why : refusal.NoMemory ≡ refusal.Failed = (is.1 refl).0 in absurd cc),
+  (λ is. let same : Some (opened 100) ≡ None = ap (λ (it : Session). it.current) (is.1 refl).1 in absurd cc),
+)

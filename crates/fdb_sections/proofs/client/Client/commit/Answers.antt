@@ -7,7 +7,6 @@ use Rattle.fdb_sections.specs.Clients.{Client, Asks}
 use Rattle.fdb_sections.specs.Commits.{CommitAnswers}
 use Rattle.fdb_sections.specs.Receipts.{ReceiptAtFront}
 use Rattle.fdb_sections.proofs.CommitLemmas.{acknowledged}
-use Rattle.fdb_sections.proofs.ClientLemmas.{asks-submitted}
 use Rattle.fdb_sections.proofs.client.Client.commit.Goals as goal
 
 pub returns-in-Ok-Acknowledged : goal.returns-in-Ok-Acknowledged
@@ -16,22 +15,12 @@ returns-in-Ok-Acknowledged g c =
     let own = c.self.inside.state in
     let new = c.acknowledge.new.self in
     let ended = c.in-Ok-Acknowledged in
-    let submitted = option_map (λ (one : Submitted). one.transcript) c.self.inside.submitted in
+    let submitted = option_map (λ (one : Submitted). one.transaction) c.self.inside.submitted in
     let given : CommitAnswers config own (Ok ended.receipt) new =
-    acknowledged config own c.finish_or_receipt.new.self new ended.receipt ended.field-0 ended.field-0-is
+    acknowledged config own c.submit.new.self new ended.receipt ended.field-0 ended.field-0-is
     ended.ensures.answers ended.ensures.ended c.acknowledge.ensures.mark in
     subst (λ (it : Client). Asks {B = g.row.B.Denot} config it (Ok (asked.Acknowledged c.acknowledge.result))
     (record { session = new; submitted = submitted })) c.self.view_is
     (subst (λ (it : ReceiptAtFront). Asks {B = g.row.B.Denot} config (record { session = own; submitted = submitted })
     (Ok (asked.Acknowledged it)) (record { session = new; submitted = submitted })) (sym c.acknowledge.ensures.same)
     (given.0, refl, given.1))
-
-pub returns-in-Ok-ToCommit : goal.returns-in-Ok-ToCommit
-returns-in-Ok-ToCommit g c =
-    let config = g.B.ClusterName.config in
-    let ended = c.in-Ok-ToCommit in
-    let submitted = option_map (λ (one : Submitted). one.transcript) c.self.inside.submitted in
-    subst (λ (it : Client). Asks config it c.submit.result c.submit.new.self) c.self.view_is
-    (asks-submitted config (record { session = c.self.inside.state; submitted = submitted }) c.submit.new.self
-    c.finish_or_receipt.new.self ended.sealed ended.transcript ended.field-0 c.submit.result ended.field-0-is
-    ended.ensures.answers ended.ensures.ended c.submit.ensures.asked c.submit.ensures.back)

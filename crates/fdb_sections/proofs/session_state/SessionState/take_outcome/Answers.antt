@@ -43,7 +43,7 @@ returns-in-Ok-told-clause-given g c =
     let own = c.self.inside in
     let front = c.in-Ok.front in
     let told = c.args.message.now in
-    let transcript = c.args.submitted.now.transcript in
+    let transcript = c.args.submitted.now.transaction in
     let before : IsOpenAt splits own.number own.next_number own.front transcript =
     subst (λ (it : Session). IsOpenAt splits it.number it.next_number it.front transcript) (sym c.self.view_is)
     c.requires in
@@ -84,7 +84,7 @@ pub returns-in-Err-clause-turned : goal.returns-in-Err-clause-turned
 returns-in-Err-clause-turned g c =
     let splits = g.B.ClusterName.config.resolver_splits in
     let told = c.args.message.now in
-    inr (turned-down splits c.in-Ok.front told c.args.submitted.now.transcript c.know_entries.ensures
+    inr (turned-down splits c.in-Ok.front told c.args.submitted.now.transaction c.know_entries.ensures
     c.in-Ok.ensures.begins.1 c.in-Err.ensures.told c.in-Ok.ensures.told c.in-Err.why
     (refused-fault (settle_fault told.outcome) c.in-Err.why (λ (spot : Spot). spot ≡ spot_told told)
     c.in-Err.ensures.answers))

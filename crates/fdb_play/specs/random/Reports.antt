@@ -1,16 +1,17 @@
 -- What a run of drawn steps prints, and the status that it ends with.
-use Rattle.std.specs.Prelude.{◌≡◌, ◌+◌, ℕ, Bool, true, false, List, ◌⊎◌, ⊤, Option, Some, None, codes}
-use Rattle.std.specs.Prelude.{Result, Err}
+use Rattle.std.specs.Prelude.{◌≡◌, ◌+◌, ℕ, Bool, true, false, List, length, ◌⊎◌, ⊤, Option, Some, None, codes}
 use Rattle.std.specs.declared.io.Error.{Error}
 use Rattle.serde_json.specs.Data.{Members, boolean, number, unsigned, string, object, member, no_members}
 use Rattle.serde_json.specs.Written.{compact_text}
 use Rattle.fdb_keys.specs.declared.refusal.Refusal.{Refusal}
-use Rattle.fdb_keys.specs.declared.refusal.Refusal.TheVariants.{NoMemory}
+use Rattle.fdb_machine.specs.machine.Failures.{State}
+use Rattle.fdb_machine.specs.machine.Worlds.{first_state}
 use Rattle.fdb_print.specs.Stops.{printed_line, refused_line}
 use Rattle.fdb_play.specs.declared.random.ended.Ended.{Ended}
 use Rattle.fdb_play.specs.declared.random.ended.Ended.TheVariants.{Io, Refused}
 use Rattle.fdb_play.specs.declared.random.report.Report.{Report}
 use Rattle.fdb_play.specs.declared.random.tally.Tally.{Tally}
+use Rattle.fdb_play.specs.random.Runs.{CountsSteps, drawn_config}
 
 -- whether the check found no difference, where it then says how many transactions it compared
 abbrev pub has_held : Option ℕ → Bool
@@ -25,7 +26,7 @@ compared (Some count) = count
 -- the report of so many steps, by what they were answered and by what the check found
 abbrev pub report_of : Tally → ℕ → Option ℕ → Report
 report_of tally steps checked = record {
-  aborted = tally.conflicting + tally.old;
+  aborted = tally.conflicting + tally.too_old;
   acknowledged = tally.committed + tally.read_only;
   checked = compared checked;
   ok = has_held checked;
@@ -33,9 +34,16 @@ report_of tally steps checked = record {
   steps = steps;
 }
 
--- it is the report of so many steps that were answered so, after which the check found no difference
+-- It is the report of so many steps that the world took and that were answered so, after which the check found no
+-- difference in any transaction that was acknowledged.
+abbrev pub IsReportFrom : State → ℕ → Tally → Report → Type 0
+IsReportFrom old steps tally report =
+    (new : State) × CountsSteps steps old new tally
+    × (report ≡ report_of tally steps (Some (length new.machine.acknowledged)))
+
+-- the same of the world that drawn steps begin with
 abbrev pub IsReportOf : ℕ → Tally → Report → Type 0
-IsReportOf steps tally report = (count : ℕ) × (report ≡ report_of tally steps (Some count))
+IsReportOf steps tally report = IsReportFrom (first_state drawn_config) steps tally report
 
 -- the members of the report as an object of JSON, in the order of their keys
 abbrev pub report_members : Report → Members

@@ -1,0 +1,4 @@
+pub mod Examples
+pub mod Reports
+pub mod Runs
+pub mod Tallies

@@ -1,0 +1,17 @@
+//! What is counted of drawn steps, for the reader of its definitions.
+ghost use Rattle.fdb_play.specs.random.Examples.{WorkedCounts, WorkedNotes, WorkedReports, WorkedSteps};
+ghost use Rattle.fdb_play.specs.random.Runs.{RunsCountSteps};
+
+/// What is counted of a run has each of its steps once: as refused, with its code, or as accepted, with its kind.
+pub fn a_run_counts_each_step_once()
+    ensures { RunsCountSteps }
+{}
+
+/// What is counted of a step that is refused, and of one that is answered this or that, and what comes to be printed
+/// of it, by examples.
+pub fn worked_examples()
+    ensures counts { WorkedCounts }
+    ensures notes { WorkedNotes }
+    ensures steps { WorkedSteps }
+    ensures reports { WorkedReports }
+{}
