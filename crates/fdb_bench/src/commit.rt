@@ -165,6 +165,7 @@ fn moves_of(alloc: Global, version: u64, range: Option<KeyRange>) -> Result<Item
     if let Some(range) = range {
         let mut moves = Items::new(alloc);
         moves.push(Move { range, to: 0 })?;
+        let moves = shared(alloc, moves)?;
         dated.push(Dated { version, moves })?;
     }
     Ok(dated)
@@ -175,13 +176,14 @@ fn ticket(alloc: Global, version: u64, range: Option<KeyRange>) -> Result<Ticket
     ensures { IfOk result IsOfMoves }
 {
     let moves = moves_of(alloc, version, range)?;
+    let pending = shared(alloc, Items::new(alloc))?;
     Ok(Ticket {
         proxy: 0,
         index: 0,
         version,
         prev: version.saturating_sub(1),
         moves,
-        pending: Items::new(alloc),
+        pending,
     })
 }
 

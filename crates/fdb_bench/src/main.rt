@@ -7,6 +7,7 @@ mod commit;
 mod log;
 mod numbers;
 mod resolver;
+mod scan;
 mod sealed;
 mod serial;
 mod sets;
@@ -30,6 +31,9 @@ fdb_bench log ENTRIES
     A log and its shard take so many entries of ten sets of 1,000 keys each.
 fdb_bench client TRANSACTIONS OPERATIONS
     A client begins and finishes so many transactions, each with so many gets of 1,000 keys and as many sets.
+fdb_bench scan PAIRS OWN
+    A transaction reads a range of so many pairs, after it set so many other keys of it, and is finished; then one that
+    set none of them.
 fdb_bench sets RANGES
     A new set of ranges takes so many ranges of one key each at once.
 fdb_bench sealed MUTATIONS
@@ -66,6 +70,7 @@ fn obey(rt: &HostRuntime, words: &[&str]) -> Result<(), Fault> {
         ["storage", sets, keys, bytes] => run_storage(rt, sets, keys, bytes),
         ["log", entries] => run_log(rt, entries),
         ["client", transactions, operations] => run_client(rt, transactions, operations),
+        ["scan", pairs, own] => run_scan(rt, pairs, own),
         ["sets", ranges] => run_sets(rt, ranges),
         ["sealed", mutations] => run_sealed(rt, mutations),
         ["answered", operations] => run_answered(rt, operations),
@@ -147,6 +152,22 @@ fn run_client(rt: &HostRuntime, transactions: &str, operations: &str) -> Result<
         ("operations", setting.operations),
     ];
     report(rt, "client", &numbers, took)
+}
+
+fn run_scan(rt: &HostRuntime, pairs: &str, own: &str) -> Result<(), Fault> {
+    let setting = scan::Setting {
+        pairs: number_of(pairs)?,
+        own: operations_of(own)?,
+    };
+    scan_once(rt, &setting)?;
+    scan_once(rt, &scan::Setting { own: 0, ..setting })
+}
+
+fn scan_once(rt: &HostRuntime, setting: &scan::Setting) -> Result<(), Fault> {
+    let took = scan::measure(rt, rt.alloc(), setting)?;
+    let numbers = [("pairs", setting.pairs), ("own", setting.own)];
+    report(rt, "scan read", &numbers, took.reading)?;
+    report(rt, "scan finish", &numbers, took.finishing)
 }
 
 fn run_sets(rt: &HostRuntime, ranges: &str) -> Result<(), Fault> {

@@ -8,7 +8,7 @@ use Rattle.std.proofs.lemmas.Option.{slice_get-get_or}
 use Rattle.std.proofs.Math.Seq.{take-suc}
 use Rattle.once_cell.specs.Once.{cell_name}
 use Rattle.fdb_txn.specs.declared.entry.Entry.{Entry}
-use Rattle.fdb_book.specs.Fronts.{IsLinkedBook, IsFront, Known, AreOfFirst, IsPrefix, shown}
+use Rattle.fdb_book.specs.Fronts.{IsLinkedBook, IsFront, Known, AreOfFirst, AreKnownUpTo, IsPrefix, shown}
 use Rattle.fdb_book.specs.Ids.{Latest}
 use Rattle.fdb_book.proofs.BookLemmas.{book-take}
 
@@ -221,3 +221,15 @@ same-shown known others book other i view other_view within same before =
 
     there : slice_get other i ≡ Some it.0.1
     there = rw (← other_view) (shown-at others i it.0.0 it.0.1 (sym same ∙ it.1))
+
+-- the entry of the last cell that is known stands behind the others
+pub last-shown : (names : List ℕ) (known : Known) (book : List Entry) (index name : ℕ) (entry : Entry)
+    → AreKnownUpTo names known index → shown known ≡ book → slice_get known index ≡ Some (name, entry)
+    → (before : List Entry) × (book ≡ before ++ entry ∷ [])
+last-shown names known book index name entry upto view found = (
+  take index book,
+  sym view
+      ∙ sym (take-past (index + 1) (shown known) (omega (arith, shown-count known, upto.counted)))
+      ∙ take-found (shown known) index entry (shown-at known index name entry found)
+      ∙ ap (λ (them : List Entry). take index them ++ entry ∷ []) view,
+)

@@ -35,9 +35,20 @@ with_found capacity book found = with_unless (append_fault capacity book found)
     with_unless None = Some (book ++ found ∷ [])
     with_unless (Some fault) = None
 
+-- what is found in the cell behind a book: the book and the entry that stands there, and the front that shows both,
+-- where there is one
+pub record Found : Type 0 where
+  pub entries : List Entry
+  pub front : Option (List Entry)
+
+-- what is found where this entry stands in the cell
+abbrev pub found_behind : ℕ → List Entry → Entry → Found
+found_behind capacity book found =
+    record { entries = book ++ found ∷ []; front = with_found capacity book found }
+
 -- The append is refused with its fault where there is one. Else it gives the book with the entry; or it lacked
--- memory; or another entry was found in the entry's cell, and the book with that one is handed out.
-abbrev pub Appends : ℕ → List Entry → Entry → Result (List Entry) (Refused (Option (List Entry))) → Type 0
+-- memory; or another entry was found in the entry's cell, and what shows that it stands there is handed out.
+abbrev pub Appends : ℕ → List Entry → Entry → Result (List Entry) (Refused (Option Found)) → Type 0
 Appends capacity book entry (Ok longer) =
     (append_fault capacity book entry ≡ None) × (longer ≡ book ++ entry ∷ [])
 Appends capacity book entry (Err refused) = refuses (append_fault capacity book entry)
@@ -47,4 +58,4 @@ Appends capacity book entry (Err refused) = refuses (append_fault capacity book 
     refuses None =
         ((refused.why ≡ NoMemory) × (refused.back ≡ None))
         ⊎ ((refused.why ≡ Taken)
-        × ((found : Entry) × (found ≢ entry) × (refused.back ≡ with_found capacity book found)))
+        × ((found : Entry) × (found ≢ entry) × (refused.back ≡ Some (found_behind capacity book found))))

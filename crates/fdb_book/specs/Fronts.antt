@@ -1,6 +1,6 @@
 -- What a front of a book is.
-use Rattle.std.specs.Prelude.{◌≡◌, ◌≤◌, ◌++◌, ◌==◌, ◌||◌, ℕ, Bool, true, nat_lt, List, map, take, length, Option, Some}
-use Rattle.std.specs.Prelude.{None}
+use Rattle.std.specs.Prelude.{◌≡◌, ◌≤◌, ◌++◌, ◌==◌, ◌||◌, ℕ, suc, Bool, true, nat_lt, List, map, take, length, Option}
+use Rattle.std.specs.Prelude.{Some, None}
 use Rattle.std.specs.Prelude.{if◌then◌else◌}
 use Rattle.std.specs.List.{AllByRecursion}
 use Rattle.fdb_keys.specs.declared.refusal.Refusal.{Refusal}
@@ -36,6 +36,11 @@ shown known = map (λ (it : ℕ × Entry). it.1) known
 pub record AreOfFirst (cells : List ℕ) (known : Known) : Type 0 where
   pub within : length known ≤ length cells
   pub first : map (λ (it : ℕ × Entry). it.0) known ≡ take (length known) cells
+
+-- it is known of the first of these cells, up to the one with the number
+pub record AreKnownUpTo (cells : List ℕ) (known : Known) (index : ℕ) : Type 0 where
+  pub first : AreOfFirst cells known
+  pub counted : suc index ≡ length known
 
 -- why there is no book with room for as many entries
 abbrev pub capacity_fault : ℕ → Option Refusal

@@ -11,6 +11,7 @@ ghost use Rattle.fdb_book.specs.Ids.{Covers};
 
 use crate::book::Book;
 use crate::facts::Facts;
+use crate::found::Found;
 use crate::front::Front;
 use crate::latest::{try_with_ids, with_ids};
 use crate::name::BookName;
@@ -31,10 +32,8 @@ use std::sync::Arc;
 ///   in the batch;
 /// - as `BookFull` where the front has an entry in each cell;
 /// - as `NoMemory` where memory runs out;
-/// - as `Taken` where another entry stands in the cell. Then the front one longer by that entry is handed out wherever
-/// that
-///   entry could be appended. Where all entries were put there by `append` it could be, but no clause says so, since
-///   what is found is known by itself alone.
+/// - as `Taken` where another entry stands in the cell. What shows that it does is handed out, and with it the front
+///   one longer by that entry, wherever that one could be appended, as it could where `append` put all entries there.
 ///
 /// An equal entry that stands in the cell is as good as the given one. No clause says what a refused call leaves in the
 /// cell; that the right entry can still be appended is tested.
@@ -48,7 +47,7 @@ pub fn append<B: BookName>(
     book: &Book<B>,
     front: &Front<B>,
     entry: Entry,
-) -> Result<Front<B>, Refused<Option<Front<B>>>>
+) -> Result<Front<B>, Refused<Option<Found<B>>>>
     ensures { Appends (length B.cells) front.now entry result }
 {
     let _ = &book.cells;
@@ -72,7 +71,7 @@ pub fn append_and_share<B: BookName>(
     book: &Book<B>,
     front: &mut Front<B>,
     entry: Entry,
-) -> Result<Front<B>, Refused<Option<Front<B>>>>
+) -> Result<Front<B>, Refused<Option<Found<B>>>>
     ensures answers { Appends (length B.cells) front.old entry result }
     ensures longer { IfOk result (λ share. front.new ≡ share) }
     ensures refused { OnErr result (front.new ≡ front.old) }
@@ -184,7 +183,7 @@ impl<B: BookName> Front<B> {
         alloc: Global,
         entry: Entry,
         latest: BTreeMap<u32, u64>,
-    ) -> Result<Self, Refused<Option<Self>>>
+    ) -> Result<Self, Refused<Option<Found<B>>>>
         requires fits { append_fault (length B.cells) self.now entry ≡ None }
         requires sealed { IsSealed entry }
         requires ids { Covers latest (self.now ++ entry ∷ []) }
@@ -210,20 +209,28 @@ impl<B: BookName> Front<B> {
             });
         };
         match self.prepare(alloc, other) {
-            Ok(latest) => Err(Refused {
-                why: Refusal::Taken,
-                back: Some(Front {
+            Ok(latest) => {
+                let seen = facts.first(len);
+                let front = Front {
                     cells,
                     facts,
                     len,
                     latest,
                     knows_ids: true,
                     name: PhantomData,
-                }),
-            }),
-            Err(why) => Err(Refused {
-                why: why_taken(why),
+                };
+                Err(Refused {
+                    why: Refusal::Taken,
+                    back: Some(Found::new(seen, self.len, Some(front))),
+                })
+            }
+            Err(Refusal::NoMemory) => Err(Refused {
+                why: Refusal::NoMemory,
                 back: None,
+            }),
+            Err(_) => Err(Refused {
+                why: Refusal::Taken,
+                back: Some(Found::new(facts, self.len, None)),
             }),
         }
     }
@@ -234,7 +241,7 @@ impl<B: BookName> Front<B> {
         alloc: Global,
         entry: Entry,
         latest: BTreeMap<u32, u64>,
-    ) -> Result<Self, Refused<Option<Self>>>
+    ) -> Result<Self, Refused<Option<Found<B>>>>
         requires fits { append_fault (length B.cells) self.old entry ≡ None }
         requires sealed { IsSealed entry }
         requires ids { Covers latest (self.old ++ entry ∷ []) }
@@ -278,17 +285,6 @@ impl<B: BookName> Front<B> {
                 }
             }
         }
-    }
-}
-
-// Why the entry that stands in its place isn't handed out: because memory ran out, or because it may not be appended.
-fn why_taken(why: Refusal) -> Refusal
-    ensures memory { why ≡ NoMemory → result ≡ NoMemory }
-    ensures taken { why ≢ NoMemory → result ≡ Taken }
-{
-    match why {
-        Refusal::NoMemory => why,
-        _ => Refusal::Taken,
     }
 }
 

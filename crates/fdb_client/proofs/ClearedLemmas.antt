@@ -8,9 +8,9 @@ use Rattle.std.specs.Cmp.Lexicographic.{slice_cmp, bytes_decides}
 use Rattle.std.specs.BTreeMap.{is_at}
 use Rattle.std.specs.BTreeMap.Range.{entries_between, range_contains}
 use Rattle.std.specs.declared.ops.Bound.TheVariants.{Included, Excluded}
-use Rattle.std.specs.List.{AllByRecursion, list_any}
+use Rattle.std.specs.List.{list_any}
 use Rattle.std.specs.Map.{keys_of}
-use Rattle.std.specs.Prelude.{OnErr, OnOk, is_some}
+use Rattle.std.specs.Prelude.{OnErr, OnOk}
 use Rattle.std.proofs.lemmas.Bool.{cases_Bool, both_ways, or_parts, cond-true, cond-false}
 use Rattle.std.proofs.lemmas.Cmp.{nat_list_cmp_total}
 use Rattle.std.proofs.lemmas.List.Folds.{list_any-append}
@@ -20,7 +20,6 @@ use Rattle.fdb_keys.specs.declared.refusal.Refusal.{Refusal}
 use Rattle.fdb_keys.specs.Insertion.{with_range}
 use Rattle.fdb_keys.specs.Points.{Point, point_eq, point_lt}
 use Rattle.fdb_keys.specs.Ranges.{Range, in_range, in_set, is_empty_range}
-use Rattle.fdb_keys.specs.Texts.{is_key}
 use Rattle.fdb_keys.proofs.Exports.{in_with_range, in_range-empty}
 use Rattle.fdb_client.specs.declared.left.Left.{Left}
 use Rattle.fdb_client.specs.declared.left.Left.TheVariants.{Value, Changes}
@@ -40,7 +39,7 @@ before_end Less = refl
 before_end Equal = refl
 before_end Greater = refl
 
-pub between-range : (range : Range) (x : Point)
+between-range : (range : Range) (x : Point)
     → range_contains (slice_cmp nat_cmp) (Included range.begin) (Excluded range.end) x ≡ in_range range x
 unfolding point_lt
 between-range range x = ap₂ (λ (from before : Bool). from && before)
@@ -104,58 +103,6 @@ no_entry range (entry ∷ entries) x inside absent =
     other (inl same) neither =
         absurd (both_ways _ neither (ap₂ (λ (here is : Bool). here && is)
         (ap (in_range range) (sym ((bytes_decides x entry.0).0 same)) ∙ inside) same))
-
--- the keys that are listed are legal, where all that have an entry are
-pub legal-between : (range : Range) (entries : List (List ℕ × Left))
-    → ((x : Point) → is_some (found entries x) ≡ true → is_key x ≡ true)
-    → AllByRecursion (λ (key : Point). is_key key ≡ true) (keys_between range entries)
-legal-between range [] legal = tt
-legal-between range (entry ∷ entries) legal =
-    by_range (range_contains (slice_cmp nat_cmp) (Included range.begin) (Excluded range.end) entry.0)
-    (legal-between range entries (λ x some. legal x (either (is_at (slice_cmp nat_cmp x) entry.0) x some)))
-  where
-    either : (here : Bool) (x : Point) → is_some (found entries x) ≡ true
-        → is_some (cond here (Some entry.1) (found entries x)) ≡ true
-    either true x some = refl
-    either false x some = some
-
-    here : is_key entry.0 ≡ true
-    here = legal entry.0 (ap is_some (cond-true _ (Some entry.1) (found entries entry.0)
-        (is_eq-slice_cmp entry.0 entry.0 ∙ (bytes_decides entry.0 entry.0).1 refl)))
-
-    rest : List (List ℕ × Left)
-    rest = entries_between (slice_cmp nat_cmp) (Included range.begin) (Excluded range.end) entries
-
-    by_range : (inside : Bool) → AllByRecursion (λ (key : Point). is_key key ≡ true) (keys_of rest)
-        → AllByRecursion (λ (key : Point). is_key key ≡ true) (keys_of (cond inside (entry ∷ rest) rest))
-    by_range true later = (here, later)
-    by_range false later = later
-
--- what isn't decided of a range: neither is it cleared with a range, nor does an entry decide it
-pub undecided-point : (range : Range) (entries : List (List ℕ × Left)) (cleared : List Range) (x : Point)
-    → (in_set cleared x ≡ true → is_value (kept_at entries cleared x) ≡ true)
-    → (in_range range x && not (in_range range x && in_set cleared x
-    || list_any (point_eq x) (keys_between range entries) && is_value (kept_at entries cleared x)))
-    ≡ (in_range range x && not (is_value (kept_at entries cleared x)))
-undecided-point range entries cleared x stays = by_range (in_range range x) refl
-  where
-    within : in_range range x ≡ true → (gone listed value : Bool) → in_set cleared x ≡ gone
-        → is_listed range entries x ≡ listed → is_value (kept_at entries cleared x) ≡ value
-        → (gone || listed && value) ≡ value
-    within inside true listed value gone_is listed_is value_is = sym (stays gone_is) ∙ value_is
-    within inside false true value gone_is listed_is value_is = refl
-    within inside false false value gone_is listed_is value_is =
-        sym (ap (λ (there : Option Left). is_value (kept_of cleared x there))
-        (no_entry range entries x inside listed_is)
-        ∙ ap (λ (gone : Bool). is_value (cond gone (Value None) (Changes []))) gone_is)
-        ∙ value_is
-
-    by_range : (inside : Bool) → in_range range x ≡ inside
-        → (inside && not (inside && in_set cleared x
-        || list_any (point_eq x) (keys_between range entries) && is_value (kept_at entries cleared x)))
-        ≡ (inside && not (is_value (kept_at entries cleared x)))
-    by_range false is = refl
-    by_range true is = ap not (within is _ _ _ refl refl refl)
 
 -- once a range is cleared, nothing stands at its points, and at every other what is kept stays
 pub left_at-cleared : (range : Range) (before after : List (List ℕ × Left)) (cleared new_cleared : List Range)

@@ -91,7 +91,8 @@ pub in_joined : (keys : List Point) (ranges : List Range) (x : Point)
     → in_set (joined keys ranges) x ≡ (list_any (point_eq x) keys || in_set ranges x)
 in_joined keys ranges x =
     in_with_keys keys (with_ranges ranges []) x
-    ∙ ap (λ (there : Bool). list_any (point_eq x) keys || there) (in_with_ranges ranges [] x ∙ or-false (in_set ranges x))
+    ∙ ap (λ (there : Bool). list_any (point_eq x) keys || there)
+    (in_with_ranges ranges [] x ∙ or-false (in_set ranges x))
   where
     or-false : (b : Bool) → (b || false) ≡ b
     or-false true = refl

@@ -7,7 +7,7 @@ mod FaultLemmas
 mod KeyExamplesLemmas
 mod LeftAtLemmas
 mod MergingLemmas
-mod OwnKeysLemmas
+mod OwnWalkLemmas
 mod OwnWritesLemmas
 mod PagesLemmas
 mod TxnStateLemmas
@@ -16,4 +16,5 @@ mod ProgramsAgree
 mod ReadExamplesLemmas
 mod ReadSetLemmas
 mod RequestLemmas
+mod UndecidedLemmas
 mod WriteSetLemmas

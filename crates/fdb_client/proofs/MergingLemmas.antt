@@ -31,7 +31,7 @@ ahead-part range is_reverse None lies x inside = inside
 ahead-part range is_reverse (Some key) lies x inside = behind-inside range (not is_reverse) key lies x inside
 
 -- what of it lies before a key of it is what of the range lies before that key
-before-ahead : (range : Range) (is_reverse : Bool) (next : Option Point) (key : Point)
+pub before-ahead : (range : Range) (is_reverse : Bool) (next : Option Point) (key : Point)
     → range_behind (ahead_of range is_reverse next) (not is_reverse) key ≡ range_behind range (not is_reverse) key
 before-ahead range is_reverse None key = refl
 before-ahead range false (Some other) key = refl
@@ -248,11 +248,6 @@ own-start own is_reverse limit next given range within lies =
 module _ (own : OwnWrites) (is_reverse : Bool) (limit : ℕ) (next : Option Point)
     (before given : List (Point × List ℕ)) (range left : Range)
     (so_far : OwnSoFar own is_reverse limit next before range given left) where
-  -- the key lies in what is left
-  pub own-lies_inside : (key : Point) → IsFirstOwn own (ahead_of left is_reverse next) is_reverse (Some key)
-      → in_range left key ≡ true
-  own-lies_inside key first = ahead-part left is_reverse next so_far.1 key first.0
-
   pub own-take : (key : Point) → IsFirstOwn own (ahead_of left is_reverse next) is_reverse (Some key)
       → is_limit_reached limit given ≡ false
       → OwnSoFar own is_reverse limit next before range (given ++ pair_of key (value_over (left_at own key) None))

@@ -2,6 +2,7 @@ pub mod Conflicts
 pub mod Finishing
 pub mod LeftAt
 pub mod Merging
+pub mod OwnWalk
 pub mod OwnWrites
 pub mod Pages
 pub mod TxnState

@@ -7,6 +7,7 @@ use Rattle.std.specs.BTreeMap.Range.{entries_between}
 use Rattle.std.specs.declared.ops.Bound.TheVariants.{Included, Excluded}
 use Rattle.std.specs.Map.{lookup, keys_of}
 use Rattle.std.specs.Option.{option_copied}
+use Rattle.fdb_keys.specs.Cutting.{range_behind, range_through}
 use Rattle.fdb_keys.specs.Points.{Point}
 use Rattle.fdb_keys.specs.Ranges.{Range, in_set}
 use Rattle.fdb_mutations.specs.declared.mutation.Mutation.{Mutation}
@@ -70,3 +71,8 @@ kept_at entries cleared x = kept_of cleared x (lookup (is_at (slice_cmp nat_cmp 
 abbrev pub keys_between : Range → List (List ℕ × Left) → List Point
 keys_between range entries =
     keys_of (entries_between (slice_cmp nat_cmp) (Included range.begin) (Excluded range.end) entries)
+
+-- what of the range an entry of the key doesn't decide, of all that comes before the key and of the key itself
+abbrev pub part_by : Range → Point → Left → Range
+part_by range key (Value value) = range_behind range true key
+part_by range key (Changes mutations) = range_through range false key

@@ -37,7 +37,7 @@ impl Model for ConflictSet {
 }
 
 impl ConflictSet {
-    ghost use Rattle.std.specs.Prelude.{◌≡◌, ◌==◌, [], length, map, None, IfOk, OnOk, OnErr, IsTrue, if◌then◌else◌};
+    ghost use Rattle.std.specs.Prelude.{◌≡◌, ◌==◌, [], length, None, OnOk, OnErr, IsTrue, if◌then◌else◌};
     ghost use Rattle.std.specs.List.{list_any};
     ghost use Rattle.fdb_keys.specs.Answers.{Answers};
     ghost use Rattle.fdb_keys.specs.Insertion.{with_range, with_ranges};

@@ -8,6 +8,7 @@ mod conflict_set;
 mod finished;
 pub mod laws;
 mod left;
+mod own_walk;
 mod own_writes;
 mod plain_snapshot;
 mod program;

@@ -1,13 +1,12 @@
 // What a transaction's own writes leave at each key, and which keys they decide.
-ghost use Rattle.std.specs.Prelude.{◌≡◌, ◌&&◌, ◌||◌, None, IfOk, OnOk, OnErr, IsSome, IfSome, IfNone, IsTrue};
+ghost use Rattle.std.specs.Prelude.{◌≡◌, ◌&&◌, ◌||◌, ◌∷◌, ◌++◌, None, IfOk, OnOk, OnErr, IsTrue};
 ghost use Rattle.std.specs.Prelude.{if◌then◌else◌, not, true, false, []};
-ghost use Rattle.std.specs.List.{AllByRecursion};
 ghost use Rattle.fdb_keys.specs.Answers.{Answers};
 ghost use Rattle.fdb_keys.specs.Cutting.{range_behind};
 ghost use Rattle.fdb_keys.specs.Points.{Point, point_eq};
-ghost use Rattle.fdb_keys.specs.Ranges.{in_range, in_set, is_apart, is_empty_range};
+ghost use Rattle.fdb_keys.specs.Ranges.{in_range, in_set, is_apart};
 ghost use Rattle.fdb_keys.specs.Texts.{is_key};
-ghost use Rattle.fdb_client.specs.OwnWrites.{left_after, as_left, is_value};
+ghost use Rattle.fdb_client.specs.OwnWrites.{left_after, as_left, is_value, part_by};
 ghost use Rattle.fdb_client.specs.declared.left.Left.TheVariants.{Changes};
 
 use crate::left::Left;
@@ -31,7 +30,7 @@ pub(crate) enum LentLeft<'a> {
     Changes(&'a [Mutation]),
 }
 
-fn lent(left: &Left) -> LentLeft<'_>
+pub(crate) fn lent(left: &Left) -> LentLeft<'_>
     ensures { as_left result ≡ left.now }
 {
     match left {
@@ -41,8 +40,38 @@ fn lent(left: &Left) -> LentLeft<'_>
     }
 }
 
+// What of the range the entry of the key doesn't decide, of all that comes before the key and of the key itself.
+fn part_by(alloc: Global, range: &KeyRange, key: &Key, entry: &Left) -> Result<KeyRange, Refusal>
+    requires { IsTrue (in_range range.now key.now) }
+    ensures { Answers result None (λ part. part ≡ part_by range.now key.now entry.now) }
+{
+    match entry {
+        Left::Value(_) => range.behind(alloc, true, key),
+        Left::Changes(_) => range.through(alloc, false, key),
+    }
+}
+
+// Adds what of the range an entry doesn't decide to the parts, as far as its key. What lies behind the key is left.
+fn cut_off(
+    alloc: Global,
+    range: &KeyRange,
+    text: &Bytes,
+    entry: &Left,
+    parts: &mut Vec<KeyRange>,
+) -> Result<KeyRange, Refusal>
+    requires legal { IsTrue (is_key text.now) }
+    requires inside { IsTrue (in_range range.now text.now) }
+    ensures left { Answers result None (λ left. left ≡ range_behind range.now false text.now) }
+    ensures part { OnOk result (parts.new.items ≡ parts.old.items ++ part_by range.now text.now entry.now ∷ []) }
+{
+    let key = Key::from_text(text.clone()?);
+    let part = part_by(alloc, range, &key, entry)?;
+    parts.push(part)?;
+    range.behind(alloc, false, &key)
+}
+
 impl OwnWrites {
-    ghost use Rattle.fdb_client.specs.LeftAt.{left_at, entry_of, AreClearedDecided, HasLegalKeys, HasNoEntry};
+    ghost use Rattle.fdb_client.specs.LeftAt.{left_at, entry_of, AreClearedDecided, HasLegalKeys};
     ghost use Rattle.fdb_client.specs.OwnWrites.{keys_between};
     ghost use Rattle.std.specs.List.{list_any};
 
@@ -63,8 +92,19 @@ impl OwnWrites {
     {
         match self.keys.get(key.text()) {
             Some(left) => lent(left),
-            None if self.cleared.contains(key) => LentLeft::Value(None),
-            None => LentLeft::Changes(&[]),
+            None => self.left_beside(key),
+        }
+    }
+
+    // What the writes leave at a key that has no entry.
+    pub(crate) fn left_beside(&self, key: &Key) -> LentLeft<'_>
+        requires { entry_of self.now key.now ≡ None }
+        ensures { as_left result ≡ left_at self.now key.now }
+    {
+        if self.cleared.contains(key) {
+            LentLeft::Value(None)
+        } else {
+            LentLeft::Changes(&[])
         }
     }
 
@@ -118,55 +158,6 @@ impl OwnWrites {
         self.put(key, left)
     }
 
-    // The first key of the range that has an entry, or the last one where the range is read from its end.
-    pub(crate) fn next_in(&self, range: &KeyRange, reverse: bool) -> Option<&Bytes>
-        ensures inside { IfSome result (λ key. IsTrue (in_range range.now key.now)) }
-        ensures entry { IfSome result (λ key. IsSome (entry_of self.now key.now)) }
-        ensures first { IfSome result (λ key. HasNoEntry self.now (range_behind range.now (not reverse) key.now)) }
-        ensures none { IfNone result (HasNoEntry self.now range.now) }
-    {
-        if range.is_empty() {
-            return None;
-        }
-        if reverse {
-            self.last_in(range)
-        } else {
-            self.first_in(range)
-        }
-    }
-
-    // The first key of the range that has an entry. The range has a point.
-    fn first_in(&self, range: &KeyRange) -> Option<&Bytes>
-        requires { is_empty_range range.now ≡ false }
-        ensures inside { IfSome result (λ key. IsTrue (in_range range.now key.now)) }
-        ensures entry { IfSome result (λ key. IsSome (entry_of self.now key.now)) }
-        ensures first { IfSome result (λ key. HasNoEntry self.now (range_behind range.now true key.now)) }
-        ensures none { IfNone result (HasNoEntry self.now range.now) }
-    {
-        match self.keys.range(range.begin_text()..range.end_text()).next() {
-            Some((key, _left)) => Some(key),
-            None => None,
-        }
-    }
-
-    // The last key of the range that has an entry. The range has a point.
-    fn last_in(&self, range: &KeyRange) -> Option<&Bytes>
-        requires { is_empty_range range.now ≡ false }
-        ensures inside { IfSome result (λ key. IsTrue (in_range range.now key.now)) }
-        ensures entry { IfSome result (λ key. IsSome (entry_of self.now key.now)) }
-        ensures last { IfSome result (λ key. HasNoEntry self.now (range_behind range.now false key.now)) }
-        ensures none { IfNone result (HasNoEntry self.now range.now) }
-    {
-        match self
-            .keys
-            .range(range.begin_text()..range.end_text())
-            .next_back()
-        {
-            Some((key, _left)) => Some(key),
-            None => None,
-        }
-    }
-
     // The keys of the range that have an entry.
     pub(crate) fn keys_in(&self, alloc: Global, range: &KeyRange) -> Result<Vec<Bytes>, AllocError>
         ensures { IfOk result (λ keys. keys.items ≡ keys_between range.now self.now.keys.entries) }
@@ -181,7 +172,9 @@ impl OwnWrites {
         Ok(keys)
     }
 
-    // The parts of the range that the writes don't decide.
+    // The parts of the range that the writes don't decide. It goes once over the entries of the range: with n of them,
+    // and c ranges that were cleared in it, it takes O((c + 1) log m + n) comparisons of bounds, where there are m
+    // entries and cleared ranges, and to sort what it found, which is sorted already.
     pub(crate) fn undecided_in(&self, alloc: Global, range: &KeyRange) -> Result<RangeSet, Refusal>
         requires legal_keys { HasLegalKeys self.now }
         requires cleared { AreClearedDecided self.now }
@@ -189,50 +182,44 @@ impl OwnWrites {
             → in_set undecided x ≡ (in_range range.now x && not (is_value (left_at self.now x)))) }
         ensures apart { IfOk result (λ undecided. IsTrue (is_apart undecided)) }
     {
-        let keys = self.keys_in(alloc, range)?;
-        let mut decided = self.decided_among(alloc, keys.as_slice())?;
-        decided.add_all(&self.cleared_in(alloc, range)?)?;
-        decided.outside(alloc, range)
+        let uncleared = self.cleared.outside(alloc, range)?;
+        let parts = self.undecided_among(alloc, &uncleared)?;
+        let mut undecided = RangeSet::new(alloc);
+        undecided.add_all(parts)?;
+        Ok(undecided)
     }
 
-    // The parts of the range that were cleared with a range: what lies outside of what lies outside of these.
-    fn cleared_in(&self, alloc: Global, range: &KeyRange) -> Result<RangeSet, Refusal>
-        ensures { Answers result None (λ cleared. (x : Point)
-            → in_set cleared x ≡ (in_range range.now x && in_set self.now.cleared x)) }
+    // The parts of the ranges, of which no key was cleared with a range, that the writes don't decide.
+    fn undecided_among(&self, alloc: Global, ranges: &RangeSet) -> Result<Vec<KeyRange>, Refusal>
+        requires legal_keys { HasLegalKeys self.now }
+        requires uncleared { (x : Point) → in_set ranges.now x ≡ true → in_set self.now.cleared x ≡ false }
+        ensures { Answers result None (λ parts. (x : Point)
+            → in_set parts.items x ≡ (in_set ranges.now x && not (is_value (left_at self.now x)))) }
     {
-        let mut others = TreeRangeSet::new(alloc);
-        others.add_all(&self.cleared.outside(alloc, range)?)?;
-        others.outside(alloc, range)
-    }
-
-    // Those of the keys that the writes decide.
-    fn decided_among(&self, alloc: Global, keys: &[Bytes]) -> Result<TreeRangeSet, Refusal>
-        requires { AllByRecursion (λ key. IsTrue (is_key key)) keys.now }
-        ensures { Answers result None (λ decided. (x : Point)
-            → in_set decided x ≡ (list_any (point_eq x) keys.now && is_value (left_at self.now x))) }
-    {
-        let mut decided = TreeRangeSet::new(alloc);
-        for text in keys {
-            self.add_decided(alloc, &mut decided, text)?;
+        let mut parts = Vec::new(alloc);
+        for range in ranges.iter() {
+            self.push_undecided(alloc, range, &mut parts)?;
         }
-        Ok(decided)
+        Ok(parts)
     }
 
-    // Adds the key with the text, if the writes decide it.
-    fn add_decided(
+    // Adds the parts of the range, of which no key was cleared with a range, that the writes don't decide.
+    fn push_undecided(
         &self,
         alloc: Global,
-        decided: &mut TreeRangeSet,
-        text: &Bytes,
+        range: &KeyRange,
+        parts: &mut Vec<KeyRange>,
     ) -> Result<(), Refusal>
-        requires { IsTrue (is_key text.now) }
-        ensures { Answers result None (λ _. (x : Point) → in_set decided.new x
-            ≡ (point_eq x text.now && is_value (left_at self.now x) || in_set decided.old x)) }
+        requires legal_keys { HasLegalKeys self.now }
+        requires uncleared { (x : Point) → in_range range.now x ≡ true → in_set self.now.cleared x ≡ false }
+        ensures { Answers result None (λ _. (x : Point) → in_set parts.new.items x
+            ≡ (in_set parts.old.items x || in_range range.now x && not (is_value (left_at self.now x)))) }
     {
-        let key = Key::from_text(text.clone()?);
-        if self.decides(&key) {
-            decided.add(&KeyRange::single(alloc, &key)?)?;
+        let mut left = range.clone()?;
+        for (text, entry) in self.keys.range(range.begin_text()..range.end_text()) {
+            left = cut_off(alloc, &left, text, entry, parts)?;
         }
+        parts.push(left)?;
         Ok(())
     }
 

@@ -1,23 +1,28 @@
 // A read of a range: the pairs of a snapshot's pages and a transaction's own writes, side by side.
-ghost use Rattle.std.specs.Prelude.{◌≡◌, ◌++◌, ◌-◌, ◌<◌, [], None, OnOk, IsTrue, length, true};
+ghost use Rattle.std.specs.Prelude.{◌≡◌, ◌∷◌, ◌++◌, ◌-◌, ◌<◌, [], None, Some, IfSome, OnOk, IsTrue, is_some, length};
+ghost use Rattle.std.specs.Prelude.{not, true, false, unwrap_or};
 ghost use Rattle.std.specs.Option.{option_copied};
 ghost use Rattle.fdb_keys.specs.Answers.{Answers};
 ghost use Rattle.fdb_keys.specs.Cutting.{range_behind};
 ghost use Rattle.fdb_keys.specs.Ranges.{Range, in_range};
+ghost use Rattle.fdb_keys.specs.Texts.{is_key};
 ghost use Rattle.fdb_mutations.specs.Maps.{Map};
 ghost use Rattle.fdb_mutations.specs.Pairs.{is_limit_reached};
 ghost use Rattle.fdb_mutations.specs.PairLaws.{given_of, pair_of};
-ghost use Rattle.fdb_client.specs.LeftAt.{left_at, HasLegalKeys};
+ghost use Rattle.fdb_client.specs.LeftAt.{left_at, HasLegalKeys, HasNoEntry};
 ghost use Rattle.fdb_client.specs.Merging.{HasFirst, HasNoValue, IsCopyOf, IsFirstOwn, IsWithin, LiesIn, ReadsOn};
 ghost use Rattle.fdb_client.specs.Merging.{ReadsPage, TookOwn, TookPage, ahead_of};
+ghost use Rattle.fdb_client.specs.OwnWalk.{IsAt, in_order, is_ahead, key_of, left_of, to_come};
 ghost use Rattle.fdb_client.specs.OwnWrites.{value_over};
 ghost use Rattle.fdb_client.specs.Pages.{IsPage};
 
-use crate::own_writes::OwnWrites;
+use crate::left::Left;
+use crate::own_walk::OwnWalk;
+use crate::own_writes::{OwnWrites, lent};
 use crate::reading::value_over;
 use crate::snapshot::Snapshot;
 use bytes::Bytes;
-use fdb_keys::{Items, Key, KeyRange, Refusal};
+use fdb_keys::{Items, Key, KeyRange, Refusal, is_before};
 use fdb_mutations::Page;
 use std::alloc::Global;
 
@@ -41,119 +46,188 @@ struct RangeRead<'a> {
 
 impl<'a> RangeRead<'a> {
     // Whether as many pairs were given as the limit allows.
-    fn is_full(&self, progress: &Progress) -> bool
-        ensures { result ≡ is_limit_reached self.now.limit progress.now.given }
+    fn is_full(&self, given: &Items<(Key, Bytes)>) -> bool
+        ensures { result ≡ is_limit_reached self.now.limit given.now }
     {
-        self.limit != 0 && progress.given.len() == self.limit as usize
+        self.limit != 0 && given.len() == self.limit as usize
     }
 
     // How many pairs to ask for: what the limit leaves, or 0 for all of them.
-    fn room(&self, progress: &Progress) -> u32
-        requires { IsWithin self.now.limit progress.now.given }
-        ensures { result ≡ self.now.limit - length progress.now.given }
+    fn room(&self, given: &Items<(Key, Bytes)>) -> u32
+        requires { IsWithin self.now.limit given.now }
+        ensures { result ≡ self.now.limit - length given.now }
     {
         match self.limit {
             0 => 0,
-            limit => limit - progress.given.len() as u32,
+            limit => limit - given.len() as u32,
         }
     }
 
-    // What of the range comes before the next key, or all of it where there is none.
-    fn ahead_of(&self, left: &KeyRange, next: Option<&Key>) -> Result<KeyRange, Refusal>
-        requires { LiesIn left.now (option_copied next) }
-        ensures { Answers result None (λ ahead. ahead ≡ ahead_of left.now self.now.reverse (option_copied next.entry)) }
+    // The next entry of the walk, if it comes before the next key, or if there is no such key.
+    fn next_own<'p>(&self, walk: &OwnWalk<'p>, next: Option<&Key>) -> Option<(&'p Bytes, &'p Left)>
+        requires at { IsAt self.now.own.now self.now.reverse walk.now }
+        requires next { LiesIn (left_of self.now.reverse walk.now) (option_copied next) }
+        ensures first { IsFirstOwn self.now.own.now
+            (ahead_of (left_of self.now.reverse walk.now) self.now.reverse (option_copied next.entry))
+            self.now.reverse (key_of result) }
+        ensures rest { IfSome result (λ entry. to_come self.now.reverse walk.now
+            ≡ (entry.0.now, entry.1.now) ∷ in_order self.now.reverse walk.now.rest) }
+    {
+        match walk.next() {
+            Some((text, left)) if self.is_ahead(text, next) => Some((text, left)),
+            _ => None,
+        }
+    }
+
+    // Whether the text comes before the next key, in the order in which the range is read, if there is such a key.
+    fn is_ahead(&self, text: &Bytes, next: Option<&Key>) -> bool
+        ensures { result ≡ is_ahead self.now.reverse (option_copied next.entry) text.now }
     {
         match next {
-            Some(key) => left.behind(self.alloc, !self.reverse, key),
-            None => Ok(left.clone()?),
+            Some(key) if self.reverse => is_before(key.bytes(), text.as_slice()),
+            Some(key) => is_before(text.as_slice(), key.bytes()),
+            None => true,
         }
     }
 
-    // The first own key before the next key, or of all that is left where there is none.
-    fn next_own(&self, left: &KeyRange, next: Option<&Key>) -> Result<Option<Key>, Refusal>
+    // What stands at the key of the map after the writes, where no entry of the walk is left before it.
+    fn value_at(
+        &self,
+        walk: &OwnWalk<'_>,
+        key: &Key,
+        old: Option<Bytes>,
+    ) -> Result<Option<Bytes>, Refusal>
+        requires at { IsAt self.now.own.now self.now.reverse walk.now }
+        requires inside { IsTrue (in_range (left_of self.now.reverse walk.now) key.now) }
+        requires first { HasNoEntry self.now.own.now
+            (range_behind (left_of self.now.reverse walk.now) (not self.now.reverse) key.now) }
+        ensures { Answers result None (λ value. value ≡ value_over (left_at self.now.own.now key.now) old) }
+    {
+        match walk.left_at(key) {
+            Some(left) => value_over(self.alloc, lent(left), old),
+            None => value_over(self.alloc, self.own.left_beside(key), old),
+        }
+    }
+
+    // Takes the own keys before the next key of the map, or all where there is none, until the limit is reached.
+    fn take_own(
+        &self,
+        walk: &mut OwnWalk<'_>,
+        given: &mut Items<(Key, Bytes)>,
+        next: Option<&Key>,
+    ) -> Result<(), Refusal>
         requires legal_keys { HasLegalKeys self.now.own.now }
-        requires next { LiesIn left.now (option_copied next) }
-        ensures { Answers result None (λ key. IsFirstOwn self.now.own.now
-            (ahead_of left.now self.now.reverse (option_copied next.entry)) self.now.reverse key) }
+        requires at { IsAt self.now.own.now self.now.reverse walk.old }
+        requires next { LiesIn (left_of self.now.reverse walk.old) (option_copied next) }
+        requires within { IsWithin self.now.limit given.old }
+        ensures answers { Answers result None (λ _. (map copy : Map) → IsCopyOf (left_at self.now.own.now) map copy
+            → HasNoValue map
+            (ahead_of (left_of self.now.reverse walk.old) self.now.reverse (option_copied next.entry))
+            → TookOwn map copy self.now.reverse self.now.limit (option_copied next.entry) given.old
+            (left_of self.now.reverse walk.old) given.new (left_of self.now.reverse walk.new)) }
+        ensures within { OnOk result (IsWithin self.now.limit given.new) }
+        ensures at { OnOk result (IsAt self.now.own.now self.now.reverse walk.new) }
+        ensures passed { OnOk result (is_limit_reached self.now.limit given.new ≡ false
+            → HasNoEntry self.now.own.now
+            (ahead_of (left_of self.now.reverse walk.new) self.now.reverse (option_copied next.entry))) }
+        ensures range { OnOk result (walk.new.range.now ≡ walk.old.range.now) }
     {
-        let ahead = self.ahead_of(left, next)?;
-        self.first_own(&ahead)
-    }
-
-    // The first own key of the range.
-    fn first_own(&self, range: &KeyRange) -> Result<Option<Key>, Refusal>
-        requires { HasLegalKeys self.now.own.now }
-        ensures { Answers result None (λ key. IsFirstOwn self.now.own.now range.now self.now.reverse key) }
-    {
-        match self.own.next_in(range, self.reverse) {
-            Some(text) => {
-                let text = text.clone()?;
-                Ok(Some(Key::from_text(text)))
-            }
-            None => Ok(None),
-        }
-    }
-
-    // Takes the next key, at which the map has this value: its pair is given, if it has one after the writes.
-    fn take(&self, progress: &mut Progress, key: &Key, old: Option<Bytes>) -> Result<(), Refusal>
-        requires { IsTrue (in_range progress.old.left key.now) }
-        ensures given { Answers result None (λ _. progress.new.given
-            ≡ progress.old.given ++ pair_of key.now (value_over (left_at self.now.own.now key.now) old)) }
-        ensures left { OnOk result (progress.new.left ≡ range_behind progress.old.left self.now.reverse key.now) }
-    {
-        let value = value_over(self.alloc, self.own, key, old)?;
-        progress.left = progress.left.behind(self.alloc, self.reverse, key)?;
-        if let Some(value) = value {
-            progress.given.push((key.clone()?, value))?;
+        while !self.is_full(given) {
+            let Some((text, left)) = self.next_own(walk, next) else {
+                return Ok(());
+            };
+            let value = value_over(self.alloc, lent(left), None)?;
+            give(given, text, value)?;
+            walk.pass_own(self.reverse, text);
         }
         Ok(())
     }
 
-    // Takes the own keys before the next key of the map, or all where there is none, until the limit is reached.
-    fn take_own(&self, progress: &mut Progress, next: Option<&Key>) -> Result<(), Refusal>
-        requires legal_keys { HasLegalKeys self.now.own.now }
-        requires next { LiesIn progress.old.left (option_copied next) }
-        requires within { IsWithin self.now.limit progress.old.given }
-        ensures answers { Answers result None (λ _. (map copy : Map) → IsCopyOf (left_at self.now.own.now) map copy
-            → HasNoValue map (ahead_of progress.old.left self.now.reverse (option_copied next.entry))
-            → TookOwn map copy self.now.reverse self.now.limit (option_copied next.entry) progress.old.given
-            progress.old.left
-            progress.new.given progress.new.left) }
-        ensures within { OnOk result (IsWithin self.now.limit progress.new.given) }
+    // Takes the next pair of the map, before whose key no own key is left.
+    fn take_pair<'p>(
+        &self,
+        walk: &mut OwnWalk<'p>,
+        given: &mut Items<(Key, Bytes)>,
+        key: &'p Key,
+        value: &Bytes,
+    ) -> Result<(), Refusal>
+        requires at { IsAt self.now.own.now self.now.reverse walk.old }
+        requires inside { IsTrue (in_range (left_of self.now.reverse walk.old) key.now) }
+        requires first { HasNoEntry self.now.own.now
+            (range_behind (left_of self.now.reverse walk.old) (not self.now.reverse) key.now) }
+        ensures given { Answers result None (λ _. given.new
+            ≡ given.old ++ pair_of key.now (value_over (left_at self.now.own.now key.now) (Some value.now))) }
+        ensures left { OnOk result (left_of self.now.reverse walk.new
+            ≡ range_behind (left_of self.now.reverse walk.old) self.now.reverse key.now) }
+        ensures at { OnOk result (IsAt self.now.own.now self.now.reverse walk.new) }
+        ensures range { OnOk result (walk.new.range.now ≡ walk.old.range.now) }
     {
-        while !self.is_full(progress) {
-            let Some(key) = self.next_own(&progress.left, next)? else {
-                return Ok(());
-            };
-            self.take(progress, &key, None)?;
-        }
+        let old = value.clone()?;
+        let now = self.value_at(walk, key, Some(old))?;
+        give(given, key.text(), now)?;
+        walk.pass(self.reverse, key);
         Ok(())
     }
 
     // Takes the pairs of a page and the own keys before them, and where no further pair follows, also those behind
     // them, until the limit is reached.
-    fn merge(&self, progress: &mut Progress, page: &Page) -> Result<(), Refusal>
+    fn merge<'p>(
+        &self,
+        walk: &mut OwnWalk<'p>,
+        given: &mut Items<(Key, Bytes)>,
+        page: &'p Page,
+    ) -> Result<(), Refusal>
         requires legal_keys { HasLegalKeys self.now.own.now }
-        requires within { IsWithin self.now.limit progress.old.given }
+        requires at { IsAt self.now.own.now self.now.reverse walk.old }
+        requires within { IsWithin self.now.limit given.old }
         requires page { (map : Map) × (copy : Map) × IsCopyOf (left_at self.now.own.now) map copy
-            × HasFirst map progress.old.left self.now.reverse page.now }
+            × HasFirst map (left_of self.now.reverse walk.old) self.now.reverse page.now }
         ensures answers { Answers result None (λ _. (map copy : Map) → IsCopyOf (left_at self.now.own.now) map copy
-            → HasFirst map progress.old.left self.now.reverse page.now
+            → HasFirst map (left_of self.now.reverse walk.old) self.now.reverse page.now
             → TookPage map copy self.now.reverse self.now.limit (length page.now.pairs) page.now.more
-            progress.old.given progress.old.left progress.new.given progress.new.left) }
-        ensures within { OnOk result (IsWithin self.now.limit progress.new.given) }
+            given.old (left_of self.now.reverse walk.old) given.new (left_of self.now.reverse walk.new)) }
+        ensures within { OnOk result (IsWithin self.now.limit given.new) }
+        ensures at { OnOk result (IsAt self.now.own.now self.now.reverse walk.new) }
+        ensures range { OnOk result (walk.new.range.now ≡ walk.old.range.now) }
     {
         for (key, value) in page.pairs.as_slice() {
-            self.take_own(progress, Some(key))?;
-            if self.is_full(progress) {
+            self.take_own(walk, given, Some(key))?;
+            if self.is_full(given) {
                 return Ok(());
             }
-            self.take(progress, key, Some(value.clone()?))?;
+            self.take_pair(walk, given, key, value)?;
         }
         if page.more {
             return Ok(());
         }
-        self.take_own(progress, None)
+        self.take_own(walk, given, None)
+    }
+
+    // Merges a page of what is left. What is left then, if the read goes on.
+    fn merge_left(
+        &self,
+        left: &KeyRange,
+        given: &mut Items<(Key, Bytes)>,
+        page: &Page,
+    ) -> Result<Option<KeyRange>, Refusal>
+        requires legal_keys { HasLegalKeys self.now.own.now }
+        requires within { IsWithin self.now.limit given.old }
+        requires page { (map : Map) × (copy : Map) × IsCopyOf (left_at self.now.own.now) map copy
+            × HasFirst map left.now self.now.reverse page.now }
+        requires goes_on { page.now.more ≡ true → 0 < length page.now.pairs }
+        ensures { Answers result None (λ rest. (map copy : Map) (range : Range)
+            → IsCopyOf (left_at self.now.own.now) map copy → HasFirst map left.now self.now.reverse page.now
+            → ReadsOn (left_at self.now.own.now) map range self.now.reverse self.now.limit given.old left.now
+            → ReadsPage (left_at self.now.own.now) map range self.now.reverse self.now.limit left.now given.new
+            (unwrap_or rest left.now) (is_some rest)) }
+    {
+        let mut walk = OwnWalk::new(self.own, left, self.reverse);
+        self.merge(&mut walk, given, page)?;
+        if page.more && !self.is_full(given) {
+            let rest = walk.left(self.alloc, self.reverse)?;
+            return Ok(Some(rest));
+        }
+        Ok(None)
     }
 
     // Merges a page of what is left. Whether the read goes on then.
@@ -170,8 +244,13 @@ impl<'a> RangeRead<'a> {
             → ReadsPage (left_at self.now.own.now) map range self.now.reverse self.now.limit progress.old.left
             progress.new.given progress.new.left more) }
     {
-        self.merge(progress, page)?;
-        Ok(page.more && !self.is_full(progress))
+        match self.merge_left(&progress.left, &mut progress.given, page)? {
+            Some(rest) => {
+                progress.left = rest;
+                Ok(true)
+            }
+            None => Ok(false),
+        }
     }
 
     // Takes the next page of what is left. Whether the read goes on then.
@@ -185,7 +264,7 @@ impl<'a> RangeRead<'a> {
             → ReadsPage (left_at self.now.own.now) (S.map snapshot.now) range self.now.reverse self.now.limit
             progress.old.left progress.new.given progress.new.left more) }
     {
-        let page = snapshot.page(&progress.left, self.room(progress), self.reverse)?;
+        let page = snapshot.page(&progress.left, self.room(&progress.given), self.reverse)?;
         let more = self.merge_page(progress, &page);
         drop(page);
         more
@@ -243,8 +322,23 @@ impl<'a> RangeRead<'a> {
     }
 }
 
+// The pair of the key with the text is given, if it has a value.
+fn give(given: &mut Items<(Key, Bytes)>, text: &Bytes, value: Option<Bytes>) -> Result<(), Refusal>
+    requires { IsTrue (is_key text.now) }
+    ensures { Answers result None (λ _. given.new ≡ given.old ++ pair_of text.now value) }
+{
+    if let Some(value) = value {
+        let key = Key::from_text(text.clone()?);
+        given.push((key, value))?;
+    }
+    Ok(())
+}
+
 // What a read of the range is given after the writes: the first pairs, or the last ones from its end, as many as the
 // limit allows, or all of them where it is 0.
+// It goes once over the own writes, beside the pages: for n pairs and own writes that it comes by it takes O(n) steps
+// on the average, for each page a search for the first and the last own write of what is left, and where ranges were
+// cleared, for each pair of a page that has no own write a search among these.
 pub(crate) fn pairs_of<S: Snapshot>(
     alloc: Global,
     own: &OwnWrites,

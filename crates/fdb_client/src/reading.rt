@@ -8,7 +8,7 @@ ghost use Rattle.fdb_mutations.specs.Mutations.{new_value};
 ghost use Rattle.fdb_mutations.specs.PairLaws.{given_of};
 ghost use Rattle.fdb_mutations.specs.Pairs.{scanned};
 ghost use Rattle.fdb_client.specs.LeftAt.{left_at};
-ghost use Rattle.fdb_client.specs.OwnWrites.{is_value, value_over};
+ghost use Rattle.fdb_client.specs.OwnWrites.{as_left, is_value, value_over};
 
 use crate::own_writes::{LentLeft, OwnWrites};
 use crate::snapshot::Snapshot;
@@ -76,16 +76,15 @@ fn value_after(
     Ok(value)
 }
 
-// What the writes leave at the key, of what stood there.
+// What writes that leave this at a key make of what stood there.
 pub(crate) fn value_over(
     alloc: Global,
-    own: &OwnWrites,
-    key: &Key,
+    left: LentLeft<'_>,
     old: Option<Bytes>,
 ) -> Result<Option<Bytes>, Refusal>
-    ensures { Answers result None (λ value. value ≡ value_over (left_at own.now key.now) old) }
+    ensures { Answers result None (λ value. value ≡ value_over (as_left left.entry) old) }
 {
-    match own.left_at(key) {
+    match left {
         LentLeft::Value(value) => Ok(copied(value)?),
         LentLeft::Changes(mutations) => value_after(alloc, old, mutations),
     }

@@ -87,8 +87,8 @@ impl Txn {
     /// what it scanned and the own writes don't decide; it scanned the whole range, or, where it gave as many pairs as
     /// the limit allows, the range up to the last one's key, which is in it. Where it is refused, nothing is noted.
     ///
-    /// It takes what it gives, what it skips of own writes, and the snapshot's pages, each key with the logarithm of
-    /// what the transaction holds.
+    /// It takes the snapshot's pages, and goes once over these and the own writes of what it scans: for n pairs and own
+    /// writes there it takes O(n log m) comparisons of keys, where the transaction holds m keys and ranges.
     pub fn get_range<S: Snapshot>(
         &mut self,
         snapshot: &S,
@@ -200,11 +200,11 @@ impl Txn {
         self.state.is_read_only()
     }
 
-    /// What the transaction asks to commit: its id and its read version, its read set, its write set, and its mutations.
-    /// The transaction stays as it is, and open.
+    /// What the transaction asks to commit: its id and its read version, its read set, its write set, and its
+    /// mutations. The transaction stays as it is, and open.
     ///
-    /// Refused as `TransactionTooLarge` where that has more than 10,000,000 bytes, unless memory ran out before that was
-    /// known, and as `NoMemory`. Where the mutations alone have more, it is known without memory. It puts both sets
+    /// Refused as `TransactionTooLarge` where that has more than 10,000,000 bytes, unless memory ran out before that
+    /// was known, and as `NoMemory`. Where the mutations alone have more, it is known without memory. It puts both sets
     /// together, which takes O(n log n) comparisons of bounds for n operations and what their range reads read, and
     /// copies each mutation, which shares its bytes.
     pub fn request(&self) -> Result<Sealed, Refusal>
@@ -224,8 +224,8 @@ impl Txn {
     }
 
     /// What is left to do of it: nothing where it has no mutation and an empty write set, which takes no memory and is
-    /// never refused, and else to commit it. Refused as `request` is; a refusal hands the transaction back. It takes the
-    /// time of `request`.
+    /// never refused, and else to commit it. Refused as `request` is; a refusal hands the transaction back. It takes
+    /// the time of `request`.
     pub fn finish(self) -> Result<Finished, Refused<Txn>>
         ensures answers { AnswersOrHandsBack result self (finish_fault result self) (IsFinished self) }
         ensures known { size_limit < sum_by mutation_size (mutations_of (program self.ops))

@@ -1,6 +1,6 @@
 // What a transaction keeps, and how each operation changes it.
-ghost use Rattle.std.specs.Prelude.{◌≡◌, ◌<◌, true, not, ◌&&◌, [], ◌∷◌, ◌++◌, None, Err, IfOk, IfErr, IsOk, IsErr, OnOk};
-ghost use Rattle.std.specs.Prelude.{OnErr, sum_by, if◌then◌else◌};
+ghost use Rattle.std.specs.Prelude.{◌≡◌, ◌<◌, true, not, ◌&&◌, [], ◌∷◌, ◌++◌, None, Err, IfOk, IfErr, IsOk, IsErr};
+ghost use Rattle.std.specs.Prelude.{OnOk, OnErr, sum_by, if◌then◌else◌};
 ghost use Rattle.std.specs.FinMap.{get};
 ghost use Rattle.std.specs.Option.{option_copied};
 ghost use Rattle.fdb_keys.specs.Answers.{Answers, AnswersOrHandsBack};

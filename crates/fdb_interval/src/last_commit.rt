@@ -155,6 +155,14 @@ impl LastCommit {
     {
         count_above(&self.breaks, self.floor)
     }
+
+    /// The number of breakpoints that are kept, also of those that no piece has any more and no expiry has come to. It
+    /// takes O(1), and no memory.
+    pub fn breakpoints(&self) -> usize
+        ensures { result ≡ length self.now.breaks }
+    {
+        self.breaks.len()
+    }
 }
 
 // The breakpoints where the range, which has a point, is marked alone.

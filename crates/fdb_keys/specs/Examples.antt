@@ -1,6 +1,7 @@
 -- Refusals, computed.
-use Rattle.std.specs.Prelude.{◌≡◌, [], ◌∷◌, Some, None}
-use Rattle.fdb_keys.specs.Refusals.{code_of}
+use Rattle.std.specs.Prelude.{◌≡◌, ℕ, List, [], ◌∷◌, length, codes, Some, None}
+use Rattle.fdb_keys.specs.Limits.{key_limit, bound_limit}
+use Rattle.fdb_keys.specs.Refusals.{code_of, name_of}
 use Rattle.fdb_keys.specs.Texts.{key_fault, range_fault}
 use Rattle.fdb_keys.specs.declared.refusal.Refusal.TheVariants.{TransactionTooOld, FutureVersion, NotCommitted}
 use Rattle.fdb_keys.specs.declared.refusal.Refusal.TheVariants.{CommitUnknownResult, KeyOutsideLegalRange}
@@ -39,6 +40,41 @@ WorkedCodes =
     × (code_of NoTransaction ≡ 9015)
     × (code_of Unknown ≡ 9016)
 
+-- the name of each refusal
+abbrev pub WorkedNames : Type 0
+WorkedNames =
+    (name_of TransactionTooOld ≡ codes "TransactionTooOld")
+    × (name_of FutureVersion ≡ codes "FutureVersion")
+    × (name_of NotCommitted ≡ codes "NotCommitted")
+    × (name_of CommitUnknownResult ≡ codes "CommitUnknownResult")
+    × (name_of KeyOutsideLegalRange ≡ codes "KeyOutsideLegalRange")
+    × (name_of InvertedRange ≡ codes "InvertedRange")
+    × (name_of TransactionTooLarge ≡ codes "TransactionTooLarge")
+    × (name_of KeyTooLarge ≡ codes "KeyTooLarge")
+    × (name_of ValueTooLarge ≡ codes "ValueTooLarge")
+    × (name_of NoMemory ≡ codes "NoMemory")
+    × (name_of (NotYet 7) ≡ codes "NotYet")
+    × (name_of Stale ≡ codes "Stale")
+    × (name_of Failed ≡ codes "Failed")
+    × (name_of Exhausted ≡ codes "Exhausted")
+    × (name_of BookFull ≡ codes "BookFull")
+    × (name_of (Repeated 7) ≡ codes "Repeated")
+    × (name_of BadOperand ≡ codes "BadOperand")
+    × (name_of BadConfig ≡ codes "BadConfig")
+    × (name_of Chain ≡ codes "Chain")
+    × (name_of Taken ≡ codes "Taken")
+    × (name_of MovesFull ≡ codes "MovesFull")
+    × (name_of Closed ≡ codes "Closed")
+    × (name_of WrongState ≡ codes "WrongState")
+    × (name_of NoTransaction ≡ codes "NoTransaction")
+    × (name_of Unknown ≡ codes "Unknown")
+
+-- the most bytes of a key, and of a bound
+abbrev pub WorkedLimits : Type 0
+WorkedLimits =
+    (key_limit ≡ 10000)
+    × (bound_limit ≡ 10001)
+
 -- Texts that are keys or not: a first byte FE is legal, FF isn't.
 abbrev pub WorkedKeys : Type 0
 WorkedKeys =
@@ -58,3 +94,18 @@ WorkedRanges =
     × (range_fault (97 ∷ []) (255 ∷ 0 ∷ []) ≡ Some KeyOutsideLegalRange)
     × (range_fault (98 ∷ []) (97 ∷ []) ≡ Some InvertedRange)
     × (range_fault (255 ∷ 0 ∷ []) (97 ∷ []) ≡ Some KeyOutsideLegalRange)
+
+-- A text may have as many bytes as its limit says and no more, and one that is too large as well as outside the legal
+-- range is refused as too large. Of two bounds that holds also where one is too large and the other one is outside.
+abbrev pub WorkedLengths : Type 0
+WorkedLengths =
+    ((text : List ℕ) → length text ≡ 9999 → key_fault (97 ∷ text) ≡ None)
+    × ((text : List ℕ) → length text ≡ 10000 → key_fault (97 ∷ text) ≡ Some KeyTooLarge)
+    × ((text : List ℕ) → length text ≡ 9999 → key_fault (255 ∷ text) ≡ Some KeyOutsideLegalRange)
+    × ((text : List ℕ) → length text ≡ 10000 → key_fault (255 ∷ text) ≡ Some KeyTooLarge)
+    × ((text : List ℕ) → length text ≡ 10000 → range_fault [] (97 ∷ text) ≡ None)
+    × ((text : List ℕ) → length text ≡ 10001 → range_fault [] (97 ∷ text) ≡ Some KeyTooLarge)
+    × ((text : List ℕ) → length text ≡ 9999 → range_fault [] (255 ∷ 0 ∷ text) ≡ Some KeyOutsideLegalRange)
+    × ((text : List ℕ) → length text ≡ 10000 → range_fault [] (255 ∷ 0 ∷ text) ≡ Some KeyTooLarge)
+    × ((text : List ℕ) → length text ≡ 10001 → range_fault (97 ∷ text) [] ≡ Some KeyTooLarge)
+    × ((text : List ℕ) → length text ≡ 10001 → range_fault (255 ∷ 0 ∷ []) (97 ∷ text) ≡ Some KeyTooLarge)

@@ -5,7 +5,8 @@ ghost use Rattle.std.specs.Ordering.{nat_cmp};
 ghost use Rattle.std.specs.Bool.{Decides};
 ghost use Rattle.std.specs.Cmp.Lexicographic.{pointwise, slice_cmp};
 ghost use Rattle.fdb_keys.specs.Equality.{key_eq, range_eq, range_set_eq, refusal_eq};
-ghost use Rattle.fdb_keys.specs.Examples.{WorkedCodes, WorkedKeys, WorkedRanges};
+ghost use Rattle.fdb_keys.specs.Examples.{WorkedCodes, WorkedNames, WorkedLimits, WorkedLengths};
+ghost use Rattle.fdb_keys.specs.Examples.{WorkedKeys, WorkedRanges};
 ghost use Rattle.fdb_keys.specs.Insertion.{with_range, with_ranges};
 ghost use Rattle.fdb_keys.specs.KeyOrder.{key_lt, key_cmp};
 ghost use Rattle.fdb_keys.specs.Points.{Point, point_lt};
@@ -79,9 +80,13 @@ pub fn range_in_a_set_adds_nothing()
         → ((x : Point) → in_range range x ≡ true → in_set ranges x ≡ true) → with_range range ranges ≡ ranges }
 {}
 
-/// The number of each refusal, and which texts are keys and ranges and why others aren't, by examples.
+/// The number and the name of each refusal, the limits of texts, and which texts are keys and ranges and why others
+/// aren't, by examples.
 pub fn worked_refusals()
     ensures codes { WorkedCodes }
+    ensures names { WorkedNames }
+    ensures limits { WorkedLimits }
+    ensures lengths { WorkedLengths }
     ensures keys { WorkedKeys }
     ensures ranges { WorkedRanges }
 {}

@@ -1,4 +1,4 @@
-ghost use Rattle.std.specs.Prelude.{◌≡◌, ◌==◌, length, IfOk, IfErr};
+ghost use Rattle.std.specs.Prelude.{◌≡◌, ◌==◌, ◌++◌, ◌∷◌, [], length, IfOk, IfErr, OnErr, MatchOption};
 ghost use Rattle.std.specs.Cmp.Lexicographic.{pointwise, lists_per};
 ghost use Rattle.std.proofs.lemmas.Cmp.{lists_equiv};
 
@@ -31,6 +31,24 @@ impl<T> SharedList<T> {
     {
         let items = Arc::new(alloc, items)?;
         Ok(SharedList { items })
+    }
+
+    /// Adds an item at the end, unless a copy shares the list: then it hands the item back. Refused only where memory
+    /// runs out. The list changes only where it takes the item. It takes O(1) time on the average.
+    pub fn push_alone(&mut self, item: T) -> Result<Option<T>, AllocError>
+    where
+        T: Drop,
+        ensures pushed { IfOk result (λ back. MatchOption back (self.new ≡ self.old ++ item ∷ [])
+            (λ given. (given ≡ item) × (self.new ≡ self.old))) }
+        ensures refused { OnErr result (self.new ≡ self.old) }
+    {
+        match Arc::get_mut(&mut self.items) {
+            Some(items) => {
+                items.push(item)?;
+                Ok(None)
+            }
+            None => Ok(Some(item)),
+        }
     }
 
     /// The items as a slice. It takes no memory, and O(1) time.

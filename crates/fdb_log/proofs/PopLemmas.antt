@@ -4,12 +4,12 @@ use Rattle.std.proofs.Common.{get_or, ⊎_elim, arith}
 use Rattle.std.specs.Prelude.{◌==◌, slice_get, slice_set, filter, count_by}
 use Rattle.std.specs.List.{AllByRecursion}
 use Rattle.std.specs.Option.{unwrap_or}
-use Rattle.std.proofs.lemmas.Bool.{cases_Bool, eqb-true, eqb-false}
+use Rattle.std.proofs.lemmas.Bool.{cases_Bool, eqb-true, eqb-false, ne_eqb, true≢false}
 use Rattle.std.proofs.lemmas.List.{get_or-set_same, get_or-set_other, length-set}
 use Rattle.std.proofs.lemmas.Option.{unwrap_or-slice_get, slice_get_read}
 use Rattle.fdb_keys.proofs.Exports.{all-filter, all-weaken}
 use Rattle.fdb_txn.specs.declared.tag_msg.TagMsg.{TagMsg}
-use Rattle.fdb_log.specs.Logs.{Log, IsLog, HasPopped, kept, popped_through}
+use Rattle.fdb_log.specs.Logs.{Log, IsLog, HasPopped, keeps, kept, popped_through}
 use Rattle.fdb_log.specs.Messages.{above}
 use Rattle.fdb_log.specs.Peeks.{RiseAfter, through_after}
 use Rattle.fdb_log.specs.Waiting.{Waiting, waits, waits_for_alone}
@@ -171,6 +171,11 @@ module _ (core : Log) (tag through found value : ℕ) (queue : List TagMsg) (wai
             (all-passing (λ (one : Waiting). one.0.0 ≤ core.last)
             (λ (one : Waiting). waits (popped_through new) one ≡ true) (waits (popped_through new)) core.waiting
             (λ one passes within. passes) (pops.is_log.taken works));
+        own_alone = λ works other left.
+            kept-other other
+            (ne_eqb other tag
+            (λ same. absurd (true≢false (sym pops.speaks.here ∙ ap (keeps core) (sym same) ∙ left))))
+            ∙ pops.is_log.own_alone works other left;
       }
 
   leaves-or_stays-each : (some : List Waiting)

@@ -29,6 +29,7 @@ pub record Takes (core : Log) (message : LogMsg) (queues : List (List TagMsg)) (
   pub told : (tag : ℕ) → keeps core tag ≡ true
       → list_at queues tag ≡ kept core tag ++ tag_message tag message ∷ []
   pub waits : waiting ≡ core.waiting ++ waiting_of (keeps core) message
+  pub elsewhere : (tag : ℕ) → keeps core tag ≡ false → list_at queues tag ≡ kept core tag
 
 -- as many queues as there were, written over them
 written-whole : (count : ℕ) (new old : List (List TagMsg)) → length new ≡ length old → count ≡ length old
@@ -43,8 +44,9 @@ pub takes-written : (core : Log) (message : LogMsg) (count : ℕ) (new passed : 
     → passed ≡ core.queues → length new ≡ length passed → count ≡ length core.queues
     → ((tag : ℕ) → keeps core tag ≡ true → list_at new tag ≡ list_at passed tag ++ tag_message tag message ∷ [])
     → waiting ≡ core.waiting ++ waiting_of (keeps core) message
+    → ((tag : ℕ) → keeps core tag ≡ false → list_at new tag ≡ list_at passed tag)
     → Takes core message (take count (new ++ drop (length new) core.queues)) waiting
-takes-written core message count new passed waiting is_log works later same long counted told waits =
+takes-written core message count new passed waiting is_log works later same long counted told waits elsewhere =
     let as_long : length new ≡ length core.queues = long ∙ ap length same in
     let whole : take count (new ++ drop (length new) core.queues) ≡ new =
     written-whole count new core.queues as_long counted in
@@ -58,6 +60,10 @@ takes-written core message count new passed waiting is_log works later same long
           ∙ told tag here
           ∙ ap (λ (queues : List (List TagMsg)). list_at queues tag ++ tag_message tag message ∷ []) same;
       waits = waits;
+      elsewhere = λ tag other.
+          ap (λ (queues : List (List TagMsg)). list_at queues tag) whole
+          ∙ elsewhere tag other
+          ∙ ap (λ (queues : List (List TagMsg)). list_at queues tag) same;
     }
 
 module _ (core : Log) (message : LogMsg) (queues : List (List TagMsg)) (waiting : List Waiting)
@@ -73,6 +79,9 @@ module _ (core : Log) (message : LogMsg) (queues : List (List TagMsg)) (waiting 
   new-wait =
       waiting_from-wait (keeps core) message.version (few-kept core.log core.logs core.tags takes.is_log.few_tags)
       (popped_through core) low 0 message.body
+
+  own-alone : (tag : ℕ) → keeps core tag ≡ false → list_at queues tag ≡ []
+  own-alone tag other = takes.elsewhere tag other ∙ takes.is_log.own_alone takes.works tag other
 
   -- the invariant holds of it
   pub is_log-push : IsLog (with_taken core message.version queues waiting)
@@ -112,6 +121,7 @@ module _ (core : Log) (message : LogMsg) (queues : List (List TagMsg)) (waiting 
             (all-weaken (λ (one : Waiting). (one.0.0 ≡ message.version) × (waits (popped_through core) one ≡ true))
             (λ (one : Waiting). waits (popped_through core) one ≡ true) (λ one is. is.1)
             (waiting_of (keeps core) message) new-wait));
+        own_alone = λ _. own-alone;
       }
 
   -- and it has taken the message
@@ -129,6 +139,7 @@ module _ (core : Log) (message : LogMsg) (queues : List (List TagMsg)) (waiting 
             ∙ length-append core.waiting (waiting_of (keeps core) message)
             ∙ ap (λ (n : ℕ). length core.waiting + n)
             (waiting_from-count (keeps core) message.version 0 message.body);
+        own_alone = own-alone;
       }
 
 -- also where the log is seen by its view

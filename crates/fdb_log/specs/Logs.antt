@@ -39,6 +39,10 @@ popped_through core tag = unwrap_or (slice_get core.popped tag) 0
 abbrev pub kept : Log → ℕ → List TagMsg
 kept core tag = unwrap_or (slice_get core.queues tag) []
 
+-- it keeps nothing of a tag that isn't kept here
+abbrev pub KeepsOwnAlone : Log → Type 0
+KeepsOwnAlone core = (tag : ℕ) → keeps core tag ≡ false → kept core tag ≡ []
+
 -- how many mutations are held: those that some tag of theirs kept here has not popped
 abbrev pub held : Log → ℕ
 held core = length core.waiting
@@ -87,7 +91,7 @@ peek_of core tag after limit =
 -- Between two calls its number is that of a log, and there are no more logs and tags than their limits say. Unless
 -- memory ran out, each tag was popped through at most the last entry's version, the messages that are kept of a tag
 -- rise from there up to that version, and each mutation that waits is of an entry up to it and has a tag that wasn't
--- popped so far.
+-- popped so far; and it keeps nothing of a tag that isn't kept here.
 pub record IsLog (core : Log) : Type 0 where
   pub number : core.log < core.logs
   pub few : core.logs ≤ log_limit
@@ -102,6 +106,7 @@ pub record IsLog (core : Log) : Type 0 where
   pub taken : core.is_failed ≡ false → AllByRecursion (λ (one : Waiting). one.0.0 ≤ core.last) core.waiting
   pub waiting : core.is_failed ≡ false
       → AllByRecursion (λ (one : Waiting). waits (popped_through core) one ≡ true) core.waiting
+  pub own_alone : core.is_failed ≡ false → KeepsOwnAlone core
 
 -- it has taken nothing, and no tag was popped
 pub record IsNewLog (number log_count tag_count : ℕ) (core : Log) : Type 0 where
@@ -121,8 +126,8 @@ pub record IsSameLog (old new : Log) : Type 0 where
   pub logs : new.logs ≡ old.logs
   pub tags : new.tags ≡ old.tags
 
--- It keeps of each tag that is kept here what it kept, and then what the message has for the tag. It holds what it
--- held, and then each mutation of the message that has a tag which is kept here.
+-- It keeps of each tag that is kept here what it kept, and then what the message has for the tag, and nothing of any
+-- other tag. It holds what it held, and then each mutation of the message that has a tag which is kept here.
 pub record HasTaken (old : Log) (message : LogMsg) (new : Log) : Type 0 where
   pub same : IsSameLog old new
   pub last : new.last ≡ message.version
@@ -131,6 +136,7 @@ pub record HasTaken (old : Log) (message : LogMsg) (new : Log) : Type 0 where
   pub kept : (tag : ℕ) → keeps old tag ≡ true → kept new tag ≡ kept old tag ++ tag_message tag message ∷ []
   pub waiting : new.waiting ≡ old.waiting ++ waiting_of (keeps old) message
   pub held : held new ≡ held old + count_by (λ (sent : Tagged). list_any (keeps old) sent.tags) message.body
+  pub own_alone : KeepsOwnAlone new
 
 -- It keeps of the tag what lies above the version, and of every other tag what it kept. It holds what still waits:
 -- what it held, but for what waited for this tag alone, through the version.
@@ -145,7 +151,10 @@ pub record HasPopped (old : Log) (tag through : ℕ) (new : Log) : Type 0 where
   pub waiting : new.waiting ≡ filter (waits (popped_through new)) old.waiting
   pub held : held new + count_by (waits_for_alone (popped_through old) tag through) old.waiting ≡ held old
 
--- it is the same log, and refuses every further call
+-- It is the same log, and refuses every further call. The last entry that it took, and how far each tag was popped,
+-- are what they were.
 pub record HasFailed (old new : Log) : Type 0 where
   pub same : IsSameLog old new
   pub fails : new.is_failed ≡ true
+  pub last : new.last ≡ old.last
+  pub popped : (tag : ℕ) → popped_through new tag ≡ popped_through old tag

@@ -1,4 +1,5 @@
-ghost use Rattle.std.specs.Prelude.{◌≡◌, ◌<◌, ◌≤◌, ◌++◌, ℕ, [], ◌∷◌, length, true, replicate, slice_get, IfOk, OnOk};
+ghost use Rattle.std.specs.Prelude.{◌≡◌, ◌<◌, ◌≤◌, ◌++◌, ℕ, [], ◌∷◌, length, true, false, replicate, slice_get};
+ghost use Rattle.std.specs.Prelude.{IfOk, OnOk};
 ghost use Rattle.std.specs.List.{AllByRecursion};
 ghost use Rattle.std.specs.Option.{unwrap_or};
 ghost use Rattle.fdb_txn.specs.Limits.{tag_limit};
@@ -243,6 +244,8 @@ fn take(
     ensures kept { OnOk result ((tag : ℕ) → is_kept keeper.log keeper.logs keeper.tags tag ≡ true
         → unwrap_or (slice_get queues.new tag) [] ≡ unwrap_or (slice_get queues.old tag) []
         ++ tag_message tag message.now ∷ []) }
+    ensures elsewhere { OnOk result ((tag : ℕ) → is_kept keeper.log keeper.logs keeper.tags tag ≡ false
+        → unwrap_or (slice_get queues.new tag) [] ≡ unwrap_or (slice_get queues.old tag) []) }
     ensures waiting { OnOk result (held.new.waiting ≡ held.old.waiting
         ++ waiting_of (is_kept keeper.log keeper.logs keeper.tags) message.now) }
     ensures placed { OnOk result (length held.new.places ≡ keeper.tags) }

@@ -1,5 +1,5 @@
 // What a message has for each tag.
-ghost use Rattle.std.specs.Prelude.{◌≡◌, ◌<◌, ℕ, true, length, slice_get, slice_set, replicate};
+ghost use Rattle.std.specs.Prelude.{◌≡◌, ◌<◌, ℕ, true, false, length, slice_get, slice_set, replicate};
 ghost use Rattle.std.specs.Prelude.{IfOk, OnOk, ◌++◌, [], ◌∷◌};
 ghost use Rattle.std.specs.Option.{unwrap_or};
 ghost use Rattle.fdb_log.specs.Messages.{is_kept, sent_to, tag_message};
@@ -26,9 +26,11 @@ pub(crate) fn push_told(
 ) -> Result<(), AllocError>
     requires number { keeper.log < keeper.logs }
     requires queued { length queues.old ≡ keeper.tags }
-    ensures { OnOk result ((tag : ℕ) → is_kept keeper.log keeper.logs keeper.tags tag ≡ true
+    ensures kept { OnOk result ((tag : ℕ) → is_kept keeper.log keeper.logs keeper.tags tag ≡ true
         → unwrap_or (slice_get queues.new tag) [] ≡ unwrap_or (slice_get queues.old tag) []
         ++ tag_message tag message.now ∷ []) }
+    ensures elsewhere { OnOk result ((tag : ℕ) → is_kept keeper.log keeper.logs keeper.tags tag ≡ false
+        → unwrap_or (slice_get queues.new tag) [] ≡ unwrap_or (slice_get queues.old tag) []) }
 {
     let mut bodies = bodies_of(alloc, keeper, message)?;
     for tag in 0..keeper.tags {

@@ -7,3 +7,4 @@ mod NumbersLemmas
 mod OrderedLemmas
 mod PairsLemmas
 mod ScannedLemmas
+mod TakenLemmas

@@ -12,6 +12,10 @@ use Rattle.fdb_mutations.specs.Maps.{Map}
 abbrev pub pairs_within : Range → List (Point × List ℕ) → List (Point × List ℕ)
 pairs_within range pairs = filter (λ pair. in_range range pair.0) pairs
 
+-- of some pairs those whose keys lie elsewhere
+abbrev pub pairs_beside : Range → List (Point × List ℕ) → List (Point × List ℕ)
+pairs_beside range pairs = filter (λ pair. not (in_range range pair.0)) pairs
+
 -- the pairs of the map whose keys lie in the range, in key order, or from the end
 abbrev pub pairs_in : Map → Range → Bool → List (Point × List ℕ)
 pairs_in map range is_reverse =

@@ -1,9 +1,12 @@
 // The pairs of a map, in a range.
-ghost use Rattle.std.specs.Prelude.{◌≡◌, None, IfOk, IsTrue, true, false, nat_eq, if◌then◌else◌};
+ghost use Rattle.std.specs.Prelude.{◌≡◌, None, IfOk, OnOk, IsTrue, true, false, nat_eq, nat_lt, if◌then◌else◌};
+ghost use Rattle.std.specs.Prelude.{[], length, drop};
+ghost use Rattle.std.specs.List.{slice_get};
+ghost use Rattle.std.specs.Option.{option_map};
 ghost use Rattle.std.specs.FinMap.{from_entries};
 ghost use Rattle.fdb_keys.specs.Answers.{Answers};
 ghost use Rattle.fdb_keys.specs.Texts.{is_key};
-ghost use Rattle.fdb_mutations.specs.Pairs.{pairs_in, first_of};
+ghost use Rattle.fdb_mutations.specs.Pairs.{pairs_in, pairs_within, pairs_beside, first_of};
 ghost use Rattle.fdb_mutations.specs.Lent.{lent_pairs};
 ghost use Rattle.fdb_mutations.specs.Maps.{has_legal_keys};
 
@@ -54,6 +57,56 @@ pub(crate) fn backward<'a>(
         .rev()
         .take(count_of(limit))
         .collect(alloc)
+}
+
+// The first key of the range that has a value. Refused only where its text has as many owners as can be counted.
+fn first_key(pairs: &BTreeMap<Bytes, Bytes>, range: &KeyRange) -> Result<Option<Bytes>, AllocError>
+    ensures { IfOk result (λ key. key
+        ≡ option_map (λ pair. pair.0) (slice_get (pairs_within range.now pairs.now.entries) 0)) }
+{
+    match pairs.range(range.begin_text()..range.end_text()).next() {
+        Some((key, _value)) => Ok(Some(key.clone()?)),
+        None => Ok(None),
+    }
+}
+
+// Takes the first pair of the range out of the map, in O(log n) comparisons for n pairs. Whether there was one. Refused
+// as `first_key` is, and then nothing changes.
+fn take_first(pairs: &mut BTreeMap<Bytes, Bytes>, range: &KeyRange) -> Result<bool, AllocError>
+    ensures others { pairs_beside range.now pairs.new.entries ≡ pairs_beside range.now pairs.old.entries }
+    ensures first { IfOk result (λ found. (found ≡ nat_lt 0 (length (pairs_within range.now pairs.old.entries)))
+        × (pairs_within range.now pairs.new.entries ≡ drop 1 (pairs_within range.now pairs.old.entries))) }
+{
+    match first_key(pairs, range)? {
+        Some(key) => {
+            pairs.remove(&key);
+            Ok(true)
+        }
+        None => Ok(false),
+    }
+}
+
+// Takes the pairs of the range out of the map, one after another. Refused as `first_key` is.
+fn take_each(pairs: &mut BTreeMap<Bytes, Bytes>, range: &KeyRange) -> Result<(), AllocError>
+    ensures others { pairs_beside range.now pairs.new.entries ≡ pairs_beside range.now pairs.old.entries }
+    ensures none { OnOk result (pairs_within range.now pairs.new.entries ≡ []) }
+{
+    for _count in 0..pairs.len() {
+        if !take_first(pairs, range)? {
+            return Ok(());
+        }
+    }
+    Ok(())
+}
+
+// Takes the pairs of the range out of the map. It takes no memory, and O(log n) comparisons for n pairs and for each
+// pair of the range. Only where a text of the map has no owner left to be counted each pair of the map is asked.
+pub(crate) fn clear_pairs(pairs: &mut BTreeMap<Bytes, Bytes>, range: &KeyRange)
+    ensures { pairs.new.entries ≡ pairs_beside range.now pairs.old.entries }
+{
+    if take_each(pairs, range).is_err() {
+        pairs.retain(|key, _value| !range.contains_text(key.as_slice()));
+    }
 }
 
 fn copy_pair(key: &Bytes, value: &Bytes) -> Result<(Key, Bytes), Refusal>

@@ -1,7 +1,8 @@
 -- The joined breakpoints decide the history of each point.
-use Rattle.std.proofs.Common.{◌≡◌, ◌∙◌, sym, ap, subst, refl, true, false, [], ◌∷◌, ◌⊎◌, inl, inr}
+use Rattle.std.proofs.Common.{◌≡◌, ◌∙◌, sym, ap, subst, refl, ◌≤◌, true, false, [], ◌∷◌, ◌⊎◌, inl, inr}
+use Rattle.std.proofs.Common.{length, suc, arith}
 use Rattle.std.specs.List.{AllByRecursion}
-use Rattle.std.proofs.lemmas.Bool.{cases_Bool, cond-true, cond-false}
+use Rattle.std.proofs.lemmas.Bool.{cases_Bool, cond-true, cond-false, cond_both}
 use Rattle.fdb_keys.specs.Points.{Point, point_lt}
 use Rattle.fdb_keys.proofs.Exports.{lt_chain}
 use Rattle.fdb_interval.specs.Breakpoints.{Breaks, value_from, AreRising}
@@ -63,3 +64,12 @@ joined-decides pieces others rising others_rising front same x =
     sym (value-joined others.lowest others.breaks.entries x others_rising)
     ∙ (λ i. value_from (front i) (same i) x)
     ∙ value-joined pieces.lowest pieces.breaks.entries x rising
+
+-- no more breakpoints are left than there were
+pub joined-fewer : (before : History) (es : Breaks History) → length (joined_after before es) ≤ length es
+joined-fewer before [] = omega arith
+joined-fewer before (e ∷ es) =
+    let same = joined-fewer before es in
+    let other = joined-fewer e.1 es in
+    cond_both (same_history e.1 before) (joined_after before es) (e ∷ joined_after e.1 es)
+    (λ (left : Breaks History). length left ≤ suc (length es)) (λ _. omega (arith, same)) (λ _. omega (arith, other))

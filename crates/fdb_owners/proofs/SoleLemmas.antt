@@ -1,9 +1,14 @@
 -- One owner of a whole set: no breakpoint is between its first begin and its last end.
 use Rattle.std.proofs.Common.{◌≡◌, ◌∙◌, sym, ap, subst, ℕ, suc, ◌-◌, Bool, true, false, ◌||◌, ◌==◌, List, [], ◌∷◌}
-use Rattle.std.proofs.Common.{length}
+use Rattle.std.proofs.Common.{◌++◌, ◌≢◌, length, filter}
+use Rattle.std.specs.BTreeMap.Range.{entries_between, range_contains}
+use Rattle.std.specs.Cmp.Lexicographic.{slice_cmp}
+use Rattle.std.specs.Ordering.{nat_cmp, is_lt}
+use Rattle.std.specs.declared.ops.Bound.TheVariants.{Excluded, Unbounded}
 use Rattle.std.proofs.Common.{⊎_elim, Option, Some, unwrap_or, refl, slice_get, arith}
 use Rattle.std.specs.List.{list_any}
-use Rattle.std.proofs.lemmas.Bool.{both_ways, or_cases, or_left, false_from_ne_true}
+use Rattle.std.proofs.lemmas.Bool.{both_ways, or_cases, or_left, and_from, false_from_ne_true, cases_Bool}
+use Rattle.std.proofs.lemmas.Bool.{cond-true, cond-false}
 use Rattle.fdb_keys.specs.Points.{Point, point_lt}
 use Rattle.fdb_keys.specs.Ranges.{Range, in_range, in_set, is_apart}
 use Rattle.fdb_keys.proofs.Exports.{all_after, in_set-before, apart_parts, lt-itself, lt_chain, in_range_parts}
@@ -27,6 +32,47 @@ owned-throughout history i since through none =
     (sym (any-within i since through history.changes)
     ∙ ap (list_any (λ (change : Change). change.owner == i)) none)
     ∙ or-none (owner_in history since == i)
+
+-- ---- a breakpoint between two points
+-- what passes one test last passes the other one, so that one leaves an item, too
+by_front : {A : Type 0} (q r : A → Bool) (item : A) (rest front : List A) (x : A) → r item ≡ false
+    → (q x ≡ true → r x ≡ true) → q item ≡ true → item ∷ rest ≡ front ++ x ∷ []
+    → ((behind : List A) → rest ≡ behind ++ x ∷ [] → ⊥) → ⊥
+by_front q r item rest [] x left passes here same others =
+    let is_x : item ≡ x = cc in
+    both_ways (r item) left (ap r is_x ∙ passes (ap q (sym is_x) ∙ here))
+by_front {A} q r item rest (first ∷ front) x left passes here same others =
+    let behind : rest ≡ front ++ x ∷ [] = cc in
+    others front behind
+
+some-left : {A : Type 0} (q r : A → Bool) (items front : List A) (x : A) → filter q items ≡ front ++ x ∷ []
+    → (q x ≡ true → r x ≡ true) → filter r items ≡ [] → ⊥
+some-left q r [] [] x is passes none = cc
+some-left q r [] (first ∷ front) x is passes none = cc
+some-left q r (item ∷ items) front x is passes none = ⊎_elim
+    (λ (kept : r item ≡ true). let same : item ∷ filter r items ≡ [] =
+    sym (cond-true (r item) (item ∷ filter r items) (filter r items) kept) ∙ none in cc)
+    (λ (left : r item ≡ false).
+    let later : filter r items ≡ [] = sym (cond-false (r item) (item ∷ filter r items) (filter r items) left) ∙ none in
+    ⊎_elim
+    (λ (here : q item ≡ true).
+    by_front q r item (filter q items) front x left passes here
+    (sym (cond-true (q item) (item ∷ filter q items) (filter q items) here) ∙ is)
+    (λ behind rest. some-left q r items behind x rest passes later))
+    (λ (elsewhere : q item ≡ false).
+    some-left q r items front x (sym (cond-false (q item) (item ∷ filter q items) (filter q items) elsewhere) ∙ is)
+    passes later)
+    (cases_Bool (q item)))
+    (cases_Bool (r item))
+
+pub one-inside : (breaks front : Breaks History) (last : Point × History) (begin end : Point)
+    → entries_between (slice_cmp nat_cmp) Unbounded (Excluded end) breaks ≡ front ++ last ∷ []
+    → point_lt begin last.0 ≡ true → breaks_inside (record { begin = begin; end = end }) breaks ≢ []
+unfolding point_lt
+one-inside breaks front last begin end between later none =
+    some-left (λ (e : Point × History). range_contains (slice_cmp nat_cmp) Unbounded (Excluded end) e.0)
+    (λ (e : Point × History). range_contains (slice_cmp nat_cmp) (Excluded begin) (Excluded end) e.0) breaks front last
+    between (λ before. and_from (is_lt (slice_cmp nat_cmp begin last.0)) _ later before) none
 
 -- ---- a set lies from the begin of its first range up to the end of its last one
 inside-first : (first : Range) (rest : List Range) → is_apart (first ∷ rest) ≡ true

@@ -1,7 +1,11 @@
 -- Owners and their changes, computed.
-use Rattle.std.specs.Prelude.{◌≡◌, ℕ, true, false, List, [], ◌∷◌, codes}
+use Rattle.std.specs.Prelude.{◌≡◌, ℕ, true, false, List, [], ◌∷◌, codes, map, Some, None}
+use Rattle.std.specs.List.{range_with_len}
+use Rattle.fdb_keys.specs.declared.refusal.Refusal.TheVariants.{BadConfig, Stale}
+use Rattle.fdb_keys.specs.Points.{Point}
 use Rattle.fdb_owners.specs.declared.history.Change.{Change}
-use Rattle.fdb_owners.specs.Ownership.{Ownership, owner_at, owned_between, changes_of}
+use Rattle.fdb_owners.specs.Ownership.{Ownership, one_owner, owner_at, owned_between, changes_of}
+use Rattle.fdb_owners.specs.Ownership.{owners_fault, learn_fault}
 
 -- a change at a version to an owner
 abbrev pub change : ℕ → ℕ → Change
@@ -48,3 +52,32 @@ WorkedOwners =
     × (changes_of (moved 300) (codes "p") ≡ 0)
     × (changes_of (moved 0) (codes "z") ≡ 0)
     × (changes_of moved_back (codes "p") ≡ 2)
+
+-- so many splits, each of one byte, from the byte 1 on
+abbrev pub rising_splits : ℕ → List Point
+rising_splits count = map (λ (byte : ℕ). byte ∷ []) (range_with_len 1 count)
+
+-- There is one split less than there are resolvers, no more and no fewer. 64 resolvers are the most, the splits rise,
+-- and the first one isn't empty. A version is learnt once, and none below it is.
+abbrev pub WorkedRefusals : Type 0
+WorkedRefusals =
+    (owners_fault 1 [] ≡ None)
+    × (owners_fault 2 (codes "m" ∷ []) ≡ None)
+    × (owners_fault 3 (codes "c" ∷ codes "m" ∷ []) ≡ None)
+    × (owners_fault 1 (codes "m" ∷ []) ≡ Some BadConfig)
+    × (owners_fault 2 (codes "c" ∷ codes "m" ∷ []) ≡ Some BadConfig)
+    × (owners_fault 0 [] ≡ Some BadConfig)
+    × (owners_fault 2 [] ≡ Some BadConfig)
+    × (owners_fault 3 (codes "m" ∷ []) ≡ Some BadConfig)
+    × (owners_fault 64 (rising_splits 63) ≡ None)
+    × (owners_fault 65 (rising_splits 64) ≡ Some BadConfig)
+    × (owners_fault 3 (codes "m" ∷ codes "c" ∷ []) ≡ Some BadConfig)
+    × (owners_fault 3 (codes "m" ∷ codes "m" ∷ []) ≡ Some BadConfig)
+    × (owners_fault 2 ((0 ∷ []) ∷ []) ≡ None)
+    × (owners_fault 2 ([] ∷ []) ≡ Some BadConfig)
+    × (owners_fault 3 ([] ∷ codes "m" ∷ []) ≡ Some BadConfig)
+    × (learn_fault (one_owner 0) 0 ≡ Some Stale)
+    × (learn_fault (one_owner 0) 1 ≡ None)
+    × (learn_fault (moved 0) 299 ≡ Some Stale)
+    × (learn_fault (moved 0) 300 ≡ Some Stale)
+    × (learn_fault (moved 0) 301 ≡ None)

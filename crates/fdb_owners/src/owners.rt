@@ -59,7 +59,7 @@ impl Model for Owners {
 }
 
 impl Owners {
-    ghost use Rattle.std.specs.Prelude.{◌≡◌, ◌<◌, ◌≤◌, ◌&&◌, ◌==◌, ℕ, None, All, OnErr, IfOk};
+    ghost use Rattle.std.specs.Prelude.{◌≡◌, ◌<◌, ◌≤◌, ◌&&◌, ◌==◌, ℕ, None, All, OnErr, IfOk, length};
     ghost use Rattle.fdb_keys.specs.Answers.{Answers};
     ghost use Rattle.fdb_keys.specs.Points.{Point};
     ghost use Rattle.fdb_keys.specs.Ranges.{in_range, in_set};
@@ -223,6 +223,14 @@ impl Owners {
         let is_at_end = self.cursor.is_none();
         self.touched = 0;
         self.rounds = rounds_left(self.rounds, is_at_end, self.last <= self.floor);
+    }
+
+    /// The number of breakpoints that are kept. Besides those at which another history begins there are such as no
+    /// expiry has come to yet, and such as a refused call of `learn` has put in. It takes O(1), and no memory.
+    pub fn breakpoints(&self) -> usize
+        ensures { length self.now.breaks ≤ result }
+    {
+        self.pieces.breaks.len()
     }
 
     /// How many resolvers there are.

@@ -23,7 +23,7 @@ pub(crate) struct Pieces {
 }
 
 impl Pieces {
-    ghost use Rattle.std.specs.Prelude.{◌≡◌, [], IsTrue, IfSome};
+    ghost use Rattle.std.specs.Prelude.{◌≡◌, ◌≢◌, [], IsTrue, IfSome, IfNone};
     ghost use Rattle.fdb_keys.specs.Points.{point_lt};
     ghost use Rattle.fdb_interval.specs.Breakpoints.{last_value, breaks_before, breaks_inside, AreRising};
     ghost use Rattle.fdb_owners.specs.Pieces.{history_at};
@@ -46,6 +46,8 @@ impl Pieces {
         ensures history { IfSome result (λ found. found.now ≡ history_at self.now begin.now) }
         ensures inside { IfSome result (λ _. breaks_inside (record { begin = begin.now; end = end.now })
             self.now.breaks.entries ≡ []) }
+        ensures none { IfNone result (breaks_inside (record { begin = begin.now; end = end.now })
+            self.now.breaks.entries ≢ []) }
         ensures rising { AreRising self.now.breaks.entries }
     {
         match self.breaks.range(..end).next_back() {

@@ -1,11 +1,12 @@
 // One owner of all keys of a set, where one look finds it.
-ghost use Rattle.std.specs.Prelude.{◌≡◌, ◌<◌, ◌==◌, ℕ, true, IfSome};
+ghost use Rattle.std.specs.Prelude.{◌≡◌, ◌≢◌, ◌<◌, ◌==◌, ℕ, [], true, IfSome, IfNone};
 ghost use Rattle.fdb_keys.specs.Points.{Point};
 ghost use Rattle.fdb_keys.specs.Ranges.{in_set};
 ghost use Rattle.fdb_txn.specs.rules.Admission.{has_points};
 ghost use Rattle.fdb_owners.specs.Histories.{AreFalling, owner_in};
-ghost use Rattle.fdb_owners.specs.Parts.{owned_from};
+ghost use Rattle.fdb_owners.specs.Parts.{owned_from, changes_within};
 ghost use Rattle.fdb_owners.specs.Pieces.{HaveHistories, IsPieces, history_at};
+ghost use Rattle.fdb_owners.specs.Spreads.{HasSole};
 
 use crate::history::History;
 use crate::parts::{Span, changes_within};
@@ -18,6 +19,7 @@ fn owner_throughout(history: &History, span: Span) -> Option<u32>
     ensures owner { IfSome result (λ sole. sole ≡ owner_in history.now span.since) }
     ensures alone { IfSome result (λ sole. (i : ℕ)
         → owned_from history.now i span.since span.through ≡ (sole == i)) }
+    ensures none { IfNone result (changes_within span.since span.through history.now.changes ≢ []) }
 {
     if changes_within(history.changes.as_slice(), span).is_empty() {
         return Some(history.owner_at(span.since));
@@ -26,8 +28,8 @@ fn owner_throughout(history: &History, span: Span) -> Option<u32>
 }
 
 /// The resolver that alone owned all keys of the set at each version of the span, if no breakpoint lies between the
-/// set's first begin and its last end, and nothing changed there in the span. There is none where the set is empty.
-/// It takes O(log n) comparisons for n breakpoints, and no memory.
+/// set's first begin and its last end, and nothing changed there in the span. There is none only where one of the two
+/// isn't so, or the set is empty. It takes O(log n) comparisons for n breakpoints, and no memory.
 pub(crate) fn sole_owner(pieces: &Pieces, set: &RangeSet, span: Span) -> Option<u32>
     requires { HaveHistories pieces.now }
     ensures some { IfSome result (λ _. has_points set.now ≡ true) }
@@ -35,6 +37,7 @@ pub(crate) fn sole_owner(pieces: &Pieces, set: &RangeSet, span: Span) -> Option<
         → IsPieces resolvers last pieces.now → sole < resolvers) }
     ensures alone { IfSome result (λ sole. (i : ℕ) (x : Point) → in_set set.now x ≡ true
         → owned_from (history_at pieces.now x) i span.since span.through ≡ (sole == i)) }
+    ensures none { IfNone result (HasSole pieces.now set.now span.since span.through → ⊥) }
 {
     let ranges = set.iter().as_slice();
     let first = ranges.first()?;

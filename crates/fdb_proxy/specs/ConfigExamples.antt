@@ -6,6 +6,7 @@ use Rattle.fdb_keys.specs.declared.refusal.Refusal.TheVariants.{BadConfig}
 use Rattle.fdb_mutations.specs.Examples.{one}
 use Rattle.fdb_proxy.specs.declared.config.Config.{Config}
 use Rattle.fdb_proxy.specs.Askers.{granted}
+use Rattle.fdb_proxy.specs.CommitProxies.{new_fault}
 use Rattle.fdb_proxy.specs.Configs.{config_fault}
 
 -- so many proxies, logs and entries, with one resolver and one shard
@@ -44,6 +45,18 @@ WorkedConfigs =
     × (config_fault (splits (rising 63) (rising 63)) ≡ None)
     × (config_fault (splits (rising 64) []) ≡ Some BadConfig)
     × (config_fault (splits [] (rising 64)) ≡ Some BadConfig)
+
+-- Proxies are numbered from 0. There is none with the number of proxies or above it, and none by a configuration that
+-- isn't legal.
+abbrev pub WorkedNumbers : Type 0
+WorkedNumbers =
+    (new_fault 0 (counts 1 1 1) ≡ None)
+    × (new_fault 1 (counts 1 1 1) ≡ Some BadConfig)
+    × (new_fault 2 (counts 1 1 1) ≡ Some BadConfig)
+    × (new_fault 15 (counts 16 16 1) ≡ None)
+    × (new_fault 16 (counts 16 16 1) ≡ Some BadConfig)
+    × (new_fault 0 (counts 17 1 1) ≡ Some BadConfig)
+    × (new_fault 0 (counts 1 0 1) ≡ Some BadConfig)
 
 -- Whoever asks is granted the committed version, or the one that it has seen where that is greater. Each gets an answer
 -- of its own, in the order in which they asked, whatever was granted to those before and to itself.

@@ -1,7 +1,9 @@
 -- Refusals of a commit proxy and what verdicts decide, computed.
-use Rattle.std.specs.Prelude.{◌≡◌, ℕ, Bool, true, false, List, [], ◌∷◌, Option, Some, None}
+use Rattle.std.specs.Prelude.{◌≡◌, ℕ, Bool, true, false, List, [], ◌∷◌, map, Option, Some, None}
+use Rattle.std.specs.List.{range_with_len}
 use Rattle.fdb_keys.specs.declared.refusal.Refusal.TheVariants.{NotYet, Stale, Failed, Repeated, WrongState}
 use Rattle.fdb_txn.specs.book.Transactions.{Transaction}
+use Rattle.fdb_txn.specs.Limits.{place_limit}
 use Rattle.fdb_resolver.specs.declared.part.Item.{Item}
 use Rattle.fdb_resolver.specs.declared.part.Part.{Part}
 use Rattle.fdb_resolver.specs.declared.verdict.Verdict.{Verdict}
@@ -69,25 +71,46 @@ resolving verdicts =
       verdicts = verdicts;
     })
 
--- it is decided, and the log hasn't acknowledged it, or has
-abbrev pub logging : Bool → Stage
-logging is_logged =
+-- the verdict of resolver 0 on each of these places of entry 4
+abbrev pub says_on : List ℕ → Verdicts
+says_on places =
+    record { resolver = 0; index = 4; answers = map (λ (place : ℕ). (place, verdict.Yes)) places }
+
+-- it is decided, and each log hasn't acknowledged it, or has
+abbrev pub logging_by : List Bool → Stage
+logging_by acknowledged =
     stage.Logging (record {
       position = here;
       answers = ((first_of 0).id, outcome.Commit 200 0) ∷ [];
-      acknowledged = is_logged ∷ [];
+      acknowledged = acknowledged;
     })
+
+-- there is one log
+abbrev pub logging : Bool → Stage
+logging is_logged = logging_by (is_logged ∷ [])
 
 abbrev pub said : Verdict → Option Said
 said one = Some ((0, one) ∷ [])
 
--- That the proxy failed comes first. A request whose id is in flight or waits is refused with its place.
+-- so many transactions, each the first one of its session
+abbrev pub firsts : ℕ → List Transaction
+firsts count = map first_of (range_with_len 0 count)
+
+-- a proxy with the greatest batch in flight, and one request that waits
+abbrev pub full_proxy : CommitProxy
+full_proxy = record (proxy stage.Sealed false) { batch = firsts place_limit; waiting = first_of place_limit ∷ [] }
+
+-- That the proxy failed comes first. A request whose id is in flight or waits is refused with its place, also in the
+-- greatest batch.
 abbrev pub WorkedSubmits : Type 0
 WorkedSubmits =
     (submit_fault (proxy stage.Sealed true) (first_of 0) ≡ Some Failed)
     × (submit_fault (proxy stage.Sealed false) (first_of 0) ≡ Some (Repeated 0))
     × (submit_fault (proxy stage.Sealed false) (first_of 1) ≡ Some (Repeated 1))
     × (submit_fault (proxy stage.Sealed false) (first_of 2) ≡ None)
+    × (submit_fault full_proxy (first_of 4095) ≡ Some (Repeated 4095))
+    × (submit_fault full_proxy (first_of 4096) ≡ Some (Repeated 4096))
+    × (submit_fault full_proxy (first_of 4097) ≡ None)
 
 -- A batch is sealed by an idle proxy alone, and one that is unsealed waits before those who wait. One that has an entry
 -- isn't unsealed, whether its ticket was learnt or memory ran out then.
@@ -122,8 +145,9 @@ WorkedTickets =
     × (parts_fault (proxy stage.Sealed false) ≡ Some WrongState)
     × (parts_fault (proxy (resolving (None ∷ None ∷ None ∷ [])) false) ≡ None)
 
--- Verdicts are stale that came before, that are on another entry, on a place that wasn't asked about or of a resolver
--- that isn't there, and all after the decision.
+-- Verdicts are stale that came before, that are on another entry or of a resolver that isn't there, that are on another
+-- place than the one that was asked about, on one more or on none, and all after the decision. Who is asked about no
+-- place may say just that.
 abbrev pub WorkedVerdicts : Type 0
 WorkedVerdicts =
     (verdict_fault (proxy (logging false) true) (says 0 4) ≡ Some Failed)
@@ -132,6 +156,12 @@ WorkedVerdicts =
     × (verdict_fault (proxy (resolving (None ∷ None ∷ None ∷ [])) false) (says 0 3) ≡ Some Stale)
     × (verdict_fault (proxy (resolving (None ∷ None ∷ None ∷ [])) false) (says 1 4) ≡ Some Stale)
     × (verdict_fault (proxy (resolving (None ∷ None ∷ None ∷ [])) false) (says 3 4) ≡ Some Stale)
+    × (verdict_fault (proxy (resolving (None ∷ None ∷ None ∷ [])) false) (says_on (0 ∷ [])) ≡ None)
+    × (verdict_fault (proxy (resolving (None ∷ None ∷ None ∷ [])) false) (says_on (1 ∷ [])) ≡ Some Stale)
+    × (verdict_fault (proxy (resolving (None ∷ None ∷ None ∷ [])) false) (says_on (0 ∷ 1 ∷ [])) ≡ Some Stale)
+    × (verdict_fault (proxy (resolving (None ∷ None ∷ None ∷ [])) false) (says_on []) ≡ Some Stale)
+    × (verdict_fault (proxy (resolving (None ∷ None ∷ None ∷ [])) false)
+    (record { resolver = 1; index = 4; answers = [] }) ≡ None)
     × (verdict_fault (proxy (logging false) false) (says 0 4) ≡ Some Stale)
     × (verdict_fault (proxy stage.Idle false) (says 0 4) ≡ Some Stale)
 
@@ -154,8 +184,8 @@ WorkedDecisions =
 abbrev pub acknowledges : ℕ → ℕ → LogAck
 acknowledges log index = record { log = log; index = index }
 
--- An acknowledgement is stale that came before, that is of another entry or of a log that isn't there. The batch is
--- done once every log has acknowledged it.
+-- An acknowledgement is stale that came before, that is of another entry or of a log that isn't there. The batch waits
+-- for the least log that hasn't acknowledged it, and is done once every log has.
 abbrev pub WorkedLogging : Type 0
 WorkedLogging =
     (messages_fault (proxy (resolving []) false) ≡ Some WrongState)
@@ -168,7 +198,15 @@ WorkedLogging =
     × (logged_fault (proxy (resolving []) false) (acknowledges 0 4) ≡ Some Stale)
     × (all_logged_fault (proxy (logging false) false) ≡ Some (NotYet 0))
     × (all_logged_fault (proxy (logging true) false) ≡ None)
+    × (all_logged_fault (proxy (logging_by (false ∷ false ∷ [])) false) ≡ Some (NotYet 0))
+    × (all_logged_fault (proxy (logging_by (true ∷ false ∷ [])) false) ≡ Some (NotYet 1))
+    × (all_logged_fault (proxy (logging_by (false ∷ true ∷ [])) false) ≡ Some (NotYet 0))
+    × (all_logged_fault (proxy (logging_by (true ∷ true ∷ [])) false) ≡ None)
+    × (logged_fault (proxy (logging_by (true ∷ false ∷ [])) false) (acknowledges 1 4) ≡ None)
+    × (logged_fault (proxy (logging_by (false ∷ true ∷ [])) false) (acknowledges 1 4) ≡ Some Stale)
     × (all_logged_fault (proxy stage.Idle false) ≡ Some WrongState)
+    × (done_fault (proxy (logging_by (true ∷ false ∷ [])) false) ≡ Some WrongState)
+    × (done_fault (proxy (logging_by (false ∷ true ∷ [])) false) ≡ Some WrongState)
     × (done_fault (proxy (logging false) false) ≡ Some WrongState)
     × (done_fault (proxy (logging true) false) ≡ None)
     × (done_fault (proxy (logging true) true) ≡ Some Failed)

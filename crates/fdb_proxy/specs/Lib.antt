@@ -1,5 +1,6 @@
 pub mod Askers
 pub mod Bodies
+pub mod CallExamples
 pub mod CommitFields
 pub mod CommitProxies
 pub mod ConfigExamples

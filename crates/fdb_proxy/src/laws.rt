@@ -1,6 +1,8 @@
 //! What the rule over the book says of resolvers' verdicts and of the messages for logs, for the proofs of the crates
 //! that use the proxies.
-ghost use Rattle.fdb_proxy.specs.ConfigExamples.{WorkedConfigs, WorkedGrants};
+ghost use Rattle.fdb_proxy.specs.CallExamples.{WorkedSubmitting, WorkedSealing, WorkedVerdict, WorkedDeciding};
+ghost use Rattle.fdb_proxy.specs.CallExamples.{WorkedLogged, WorkedFinishing};
+ghost use Rattle.fdb_proxy.specs.ConfigExamples.{WorkedConfigs, WorkedNumbers, WorkedGrants};
 ghost use Rattle.fdb_proxy.specs.Examples.{WorkedSubmits, WorkedSeals, WorkedStages, WorkedTickets, WorkedVerdicts};
 ghost use Rattle.fdb_proxy.specs.Examples.{WorkedDecisions, WorkedLogging};
 ghost use Rattle.fdb_proxy.specs.MessageLaws.{MessagesHoldTheCommitted};
@@ -45,8 +47,20 @@ pub fn worked_refusals()
     ensures logging { WorkedLogging }
 {}
 
-/// Which configurations are legal, and which versions those who ask are granted, by examples.
+/// What a commit proxy is after a call, by examples: who waits and who is in flight, what it heard of resolvers and of
+/// logs, and what becomes of a batch.
+pub fn worked_calls()
+    ensures submitting { WorkedSubmitting }
+    ensures sealing { WorkedSealing }
+    ensures verdict { WorkedVerdict }
+    ensures deciding { WorkedDeciding }
+    ensures logged { WorkedLogged }
+    ensures finishing { WorkedFinishing }
+{}
+
+/// Which configurations are legal, which proxies there are, and which versions those who ask are granted, by examples.
 pub fn worked_examples()
     ensures configs { WorkedConfigs }
+    ensures numbers { WorkedNumbers }
     ensures grants { WorkedGrants }
 {}

@@ -3,6 +3,7 @@
 ghost use Rattle.std.specs.Prelude.{◌<◌};
 ghost use Rattle.std.specs.List.{AllByRecursion};
 ghost use Rattle.fdb_log.specs.Peeks.{IsPeek};
+ghost use Rattle.fdb_proxy.specs.CommitProxies.{CommitProxy, IsTicketFor};
 ghost use Rattle.fdb_resolver.specs.Parts.{IsPart};
 ghost use Rattle.fdb_txn.specs.book.Transactions.{Transaction};
 
@@ -16,6 +17,7 @@ use fdb_log::{LogCore, Peek, Tagged};
 use fdb_making::{ask_mut, both, code_of};
 use fdb_proxy::CommitCore;
 use fdb_resolver::{Part, ResolverCore, Verdict, Verdicts};
+use fdb_sequencer::Ticket;
 use fdb_storage::Shard;
 use std::alloc::Global;
 use std::process::Abort;
@@ -122,24 +124,31 @@ fn shard_end(alloc: Global) -> End {
 }
 
 // The code of the answer to the ticket. The batch stays.
-fn learn(core: &mut CommitCore, alloc: Global) -> u32
-    requires { AllByRecursion (λ (t : Transaction). t.read < 100) core.old.proxy.batch }
+fn learn(core: &mut CommitCore, ticket: &Ticket) -> u32
+    requires ticket { (p : CommitProxy) → AllByRecursion (λ (t : Transaction). t.read < 100) p.batch
+        → IsTicketFor p ticket.now }
+    requires batch { AllByRecursion (λ (t : Transaction). t.read < 100) core.old.proxy.batch }
     ensures { AllByRecursion (λ (t : Transaction). t.read < 100) core.new.proxy.batch }
 {
-    code_of(core.learn(&ticket(alloc)))
+    code_of(core.learn(ticket))
 }
 
-fn learn_twice(core: &mut CommitCore, alloc: Global) -> End
-    requires { AllByRecursion (λ (t : Transaction). t.read < 100) core.old.proxy.batch }
+fn learn_twice(core: &mut CommitCore, ticket: &Ticket) -> End
+    requires ticket { (p : CommitProxy) → AllByRecursion (λ (t : Transaction). t.read < 100) p.batch
+        → IsTicketFor p ticket.now }
+    requires batch { AllByRecursion (λ (t : Transaction). t.read < 100) core.old.proxy.batch }
 {
-    let first = learn(core, alloc);
+    let first = learn(core, ticket);
     let has_failed = core.is_failed();
-    end_of(first, has_failed, learn(core, alloc))
+    end_of(first, has_failed, learn(core, ticket))
 }
 
 fn learner_end(alloc: Global) -> End {
     match sealed_core(alloc) {
-        Ok(mut core) => learn_twice(&mut core, alloc),
+        Ok(mut core) => match ticket(alloc) {
+            Ok(ticket) => learn_twice(&mut core, &ticket),
+            Err(why) => unmade(why.code()),
+        },
         Err(why) => unmade(why.code()),
     }
 }

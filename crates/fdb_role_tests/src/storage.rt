@@ -1,5 +1,5 @@
 // Shards with known answers.
-ghost use Rattle.std.specs.Prelude.{IfOk};
+ghost use Rattle.std.specs.Prelude.{◌<◌, ◌^◌, IfOk};
 ghost use Rattle.fdb_log.specs.Peeks.{IsPeek};
 
 use crate::asserting::same;
@@ -572,4 +572,88 @@ fn shards_part_the_keys_at_splits(rt: HostRuntime) {
     for (splits, code) in SPLITS.as_slice() {
         same(&rt, code_of(shards(alloc, *splits)), *code);
     }
+}
+
+// How many acts there are, of how many keys, and for how many versions reads are served.
+const ACTS: u64 = 10_000;
+
+const KEYS: u8 = 16;
+
+const SERVED: u64 = 8;
+
+// The keys are set one after another, each time to another value, and then cleared one after another.
+fn act_of(alloc: Global, version: u64) -> Result<Mutation, Refusal> {
+    let key = [(version % u64::from(KEYS)) as u8];
+    if (version / u64::from(KEYS)).is_multiple_of(2) {
+        Mutation::set(alloc, &key, &version.to_be_bytes())
+    } else {
+        Mutation::clear(alloc, &key)
+    }
+}
+
+// The peek from the version with one message behind it.
+fn peek_behind(alloc: Global, version: u64) -> Result<Peek, Refusal>
+    requires { version < 2 ^ 62 }
+    ensures { IfOk result (λ peek. IsPeek peek) }
+{
+    let mut body = Items::new(alloc);
+    put(&mut body, 0, act_of(alloc, version))?;
+    let body = shared(alloc, body)?;
+    let through = version + 1;
+    let messages = vec![in alloc;
+        TagMsg {
+            version: through,
+            prev: version,
+            body,
+        },
+    ]?;
+    Ok(Peek {
+        tag: 0,
+        after: version,
+        through,
+        messages: Items::from_vec(messages),
+    })
+}
+
+// The shard applies one act more, and forgets what is older than is served.
+fn apply_and_forget(shard: &mut Shard, alloc: Global, version: u64) -> Result<(), Refusal>
+    requires { version < 2 ^ 62 }
+{
+    let peek = peek_behind(alloc, version)?;
+    shard.apply(&peek)?;
+    shard.forget(peek.through.saturating_sub(SERVED))
+}
+
+// How many versions of all keys reads need.
+fn needed(shard: &Shard, alloc: Global) -> Result<u64, Refusal> {
+    let mut count = 0u64;
+    for key in 0..KEYS {
+        count = count.saturating_add(kept(shard, alloc, &[key])?);
+    }
+    Ok(count)
+}
+
+// Whether no more than twice as many versions are kept as reads need, and those that go with the versions served.
+fn is_small(shard: &Shard, alloc: Global) -> Result<bool, Refusal> {
+    let most = needed(shard, alloc)?
+        .saturating_mul(2)
+        .saturating_add(SERVED);
+    Ok(shard.versions() as u64 <= most)
+}
+
+// The first version at which the shard keeps too many.
+fn first_large(alloc: Global) -> Result<Option<u64>, Refusal> {
+    let mut shard = new_shard(alloc, b"", b"m")?;
+    for version in 0..ACTS {
+        apply_and_forget(&mut shard, alloc, version)?;
+        if !is_small(&shard, alloc)? {
+            return Ok(Some(version));
+        }
+    }
+    Ok(None)
+}
+
+#[test]
+fn versions_that_no_read_needs_go(rt: HostRuntime) {
+    same(&rt, first_large(rt.alloc()), Ok(None));
 }

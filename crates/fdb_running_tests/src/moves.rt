@@ -2,7 +2,7 @@
 ghost use Rattle.std.specs.Prelude.{◌≡◌};
 
 use crate::asserting::same;
-use crate::running::{Done, Host, Named, move_keys, put};
+use crate::running::{Done, Host, Named, move_keys, put, two_sessions};
 use fdb_book::Blank;
 use fdb_keys::{KeyRange, Refusal};
 use fdb_making::{code_of, coded, count_config, keys_of};
@@ -12,6 +12,7 @@ use std::alloc::Global;
 use std::marker::Brand;
 use std::sync::Arc;
 use std::test::Fail;
+use std::time::{Duration, Instant};
 
 // The bounds of the keys that go over, and the resolver that they go to.
 type Wanted = (&'static [u8], &'static [u8], u32);
@@ -130,25 +131,55 @@ fn move_more<B: Named, R: Host>(rt: &R, alloc: Global, database: &Database<B>) -
     ]
 }
 
+// Whether the session writes one of these keys, and has its receipt within 20 seconds. It takes far less, where what goes
+// by the square of the moves takes minutes.
+fn is_put_in_time<B: Named, R: Host>(rt: &R, alloc: Global, session: &mut Session<B>) -> bool {
+    let Ok(begin) = Instant::now(rt) else {
+        return false;
+    };
+    let is_put = put(rt, alloc, session, b"d", 1).is_ok();
+    match begin.elapsed(rt) {
+        Ok(took) => is_put && took < Duration::from_secs(20),
+        Err(_error) => false,
+    }
+}
+
+// Whether two sessions do, one after the other, whose proxies are both told of all moves.
+fn are_put_in_time<B: Named, R: Host>(
+    rt: &R,
+    alloc: Global,
+    database: &mut Database<B>,
+) -> Result<[bool; 2], Refusal> {
+    let (mut first, mut second) = two_sessions(alloc, database)?;
+    let are_quick = [
+        is_put_in_time(rt, alloc, &mut first),
+        is_put_in_time(rt, alloc, &mut second),
+    ];
+    drop((first, second));
+    Ok(are_quick)
+}
+
 fn fill_moves<B: Named, R: Host>(rt: &R, alloc: Global, blank: Blank, config: &Config) -> Done
     requires cells { blank ≡ B.cells }
     requires config { config.now ≡ B.config }
 {
     let gate = Arc::new(alloc, NoGate)?;
-    let database: Database<B> = Database::start(rt, alloc, blank, config, 100, &gate)?;
+    let mut database: Database<B> = Database::start(rt, alloc, blank, config, 100, &gate)?;
     let moved = coded(move_all(rt, alloc, &database));
     let codes = move_more(rt, alloc, &database);
+    let quick = coded(are_put_in_time(rt, alloc, &mut database));
     let record = database.close(rt);
     same(rt, (moved, codes), (Ok(()), [9012, 9012, 9009]));
+    same(rt, quick, Ok([true; 2]));
     same(rt, record.is_ok(), true);
     drop(record);
     Ok(())
 }
 
 #[test]
-fn moves_are_refused_once_there_are_too_many(rt: HostRuntime) -> Result<(), Fail> {
+fn as_many_moves_as_there_may_be_hold_no_commit_up(rt: HostRuntime) -> Result<(), Fail> {
     let alloc = rt.alloc();
-    let mut config = count_config(alloc, 1, 1, 10);
+    let mut config = count_config(alloc, 2, 1, 10);
     config.resolver_splits = keys_of(alloc, &[b"m"])?;
     let blank = Blank::new(alloc, 10)?;
     fill_moves::<Brand, HostRuntime>(&rt, alloc, blank, &config)?;

@@ -324,10 +324,11 @@ impl<B: ClusterName> Session<B> {
     ///
     /// Refused as `NoTransaction` where none is open, as `TransactionTooLarge` where it has more than 10,000,000 bytes,
     /// and as `NoMemory` before its proxy took it; then nothing changes, it may be committed once more, and none is
-    /// handed back. Every other refusal ends the transaction and hands its transcript back: `NotCommitted` where another
-    /// one wrote what it read, and `TransactionTooOld` where it read at too old a version, which both may be tried anew;
-    /// `BookFull`, `Exhausted`, `Repeated` and `Chain` where it got no entry, `Closed` once the database is closed, and
-    /// `Failed`. It has no effect after any of these. After `CommitUnknownResult` it may have been committed or not.
+    /// handed back. Every other refusal ends the transaction and hands its transcript back: `NotCommitted` where
+    /// another one wrote what it read, and `TransactionTooOld` where it read at too old a version, which both may be
+    /// tried anew; `BookFull`, `Exhausted`, `Repeated` and `Chain` where it got no entry, `Closed` once the database is
+    /// closed, and `Failed`: after these six no place of what the session has seen is it. It has no effect after any of
+    /// these eight. After `CommitUnknownResult` it may have been committed or not.
     pub fn commit<R: Wait>(
         &mut self,
         rt: &R,

@@ -14,7 +14,7 @@ use Rattle.fdb_client.specs.Programs.{is_read_only}
 use Rattle.fdb_roles.specs.Spots.{spot_version}
 use Rattle.fdb_roles.specs.Sessions.{OfOpen}
 use Rattle.fdb_sections.specs.Commits.{HasReceipt, HasTranscript, CommitEnds, CommitAnswers, open_fault}
-use Rattle.fdb_sections.specs.Commits.{is_handed_back, is_read_only_spot}
+use Rattle.fdb_sections.specs.Commits.{is_handed_back, is_read_only_spot, is_without_place}
 use Rattle.fdb_sections.specs.Endings.{Ends, IsEnded}
 use Rattle.fdb_sections.specs.Receipts.{ReceiptAtFront, OutcomeAtFront, IsTurnedDown, read_only_receipt}
 use Rattle.fdb_sections.specs.Sessions.{Session, Settles, longer, with_current}
@@ -83,6 +83,7 @@ turned-back config old new told transcript refused none begins settles turned = 
   );
   begins = begins;
   left = ⊎_elim (λ taken. left (longer old.front told.front) taken.2) (λ unknown. left old.front unknown.1) settles.1;
+  absent = λ is. absurd (has-place is);
 }
   where
     of-down : (fresh : Bool)
@@ -106,6 +107,19 @@ turned-back config old new told transcript refused none begins settles turned = 
     not-full is = ⊎_elim
         (λ unknown. absurd (let wrong : refusal.CommitUnknownResult ≡ refusal.BookFull = sym unknown ∙ is in cc))
         (λ is-down. no-reason (is_fresh is-down.there.0) (sym is ∙ is-down.why_is))
+        turned
+
+    placed : (fresh : Bool)
+        → is_without_place (if fresh then refusal.NotCommitted else refusal.TransactionTooOld) ≡ true → ⊥
+    placed true same = absurd cc
+    placed false same = absurd cc
+
+    has-place : is_without_place refused.why ≡ true → ⊥
+    has-place is = ⊎_elim
+        (λ unknown. absurd (let wrong : false ≡ true =
+        subst (λ (why : Refusal). is_without_place why ≡ true) unknown is in cc))
+        (λ is-down. placed (is_fresh is-down.there.0)
+        (subst (λ (why : Refusal). is_without_place why ≡ true) is-down.why_is is))
         turned
 
     left : (front : List Entry) → new ≡ record old { front = front }
@@ -136,7 +150,14 @@ ended-open config old new transcript result own may = by_result result
     by_result (Err refused) (inl is) = inr (
       may,
       some (λ (it : Transcript). HasTranscript config old it refused new)
-          (record { back = is.back; listed = is.listed; tells = is.tells; begins = is.begins; left = is.left }),
+          (record {
+            back = is.back;
+            listed = is.listed;
+            tells = is.tells;
+            begins = is.begins;
+            left = is.left;
+            absent = is.absent;
+          }),
     )
     by_result (Err refused) (inr is) = inl (
       ap (λ (it : Refused (Option Transcript)). it.back) is.0,

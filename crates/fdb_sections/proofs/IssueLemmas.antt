@@ -15,7 +15,7 @@ use Rattle.fdb_txn.specs.book.Book.{last_version}
 use Rattle.fdb_txn.specs.book.History.{AreEntries, IsSealed}
 use Rattle.fdb_txn.specs.book.Transactions.{Transaction, NamesWrites}
 use Rattle.fdb_txn.proofs.Exports.{entries_go_on}
-use Rattle.fdb_book.specs.Appending.{goes_on, ids_fault, append_fault, Appends}
+use Rattle.fdb_book.specs.Appending.{goes_on, ids_fault, append_fault, Appends, Found}
 use Rattle.fdb_book.specs.Ids.{repeated_place}
 use Rattle.fdb_sequencer.specs.declared.ticket.Ticket.{Ticket}
 use Rattle.fdb_sequencer.specs.declared.dated.Dated.{Dated}
@@ -80,7 +80,7 @@ one-entry-more resolvers capacity book entry entries none names targets =
 
 -- a front of such entries stays one, whatever an append to it answers
 pub front-after : (resolvers capacity : ℕ) (old new : List Entry) (entry : Entry)
-    (result : Result (List Entry) (Refused (Option (List Entry)))) → Appends capacity old entry result
+    (result : Result (List Entry) (Refused (Option Found))) → Appends capacity old entry result
     → IfOk result (λ share. new ≡ share) → OnErr result (new ≡ old) → AreEntries resolvers 0 old → IsSealed entry
     → AllByRecursion (λ (move : Move). move.to < resolvers) entry.moves → AreEntries resolvers 0 new
 front-after resolvers capacity old new entry (Ok longer) answers is same entries names targets =
@@ -90,7 +90,7 @@ front-after resolvers capacity old new entry (Err refused) answers is same entri
     subst (AreEntries resolvers 0) (sym same) entries
 
 -- an append that is refused
-pub append-refused : (capacity : ℕ) (book : List Entry) (entry : Entry) (refused : Refused (Option (List Entry)))
+pub append-refused : (capacity : ℕ) (book : List Entry) (entry : Entry) (refused : Refused (Option Found))
     → Appends capacity book entry (Err refused)
     → IsAppendRefused (append_fault capacity book entry) refused.why
 append-refused capacity book entry refused answers = by_fault (append_fault capacity book entry) refl answers

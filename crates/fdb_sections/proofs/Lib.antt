@@ -1,4 +1,5 @@
 pub mod Exports
+mod AbsentLemmas
 mod ClientLemmas
 mod CommitLemmas
 mod CommitProxyLemmas

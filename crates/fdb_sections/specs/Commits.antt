@@ -9,10 +9,11 @@ use Rattle.fdb_txn.specs.declared.entry.Entry.{Entry}
 use Rattle.fdb_txn.specs.declared.spot.Spot.{Spot}
 use Rattle.fdb_txn.specs.declared.spot.Spot.TheVariants as spot
 use Rattle.fdb_proxy.specs.declared.config.Config.{Config}
-use Rattle.fdb_client.specs.Programs.{is_read_only}
+use Rattle.fdb_client.specs.Programs.{is_read_only, commit_request_of}
 use Rattle.fdb_client.specs.declared.program.Transcript.{Transcript}
 use Rattle.fdb_roles.specs.Spots.{spot_version}
 use Rattle.fdb_roles.specs.Sessions.{submit_fault}
+use Rattle.fdb_sections.specs.Absent.{IsNowhere}
 use Rattle.fdb_sections.specs.declared.messages.reply.CommitReply.{CommitReply}
 use Rattle.fdb_sections.specs.declared.messages.reply.CommitReply.TheVariants as reply
 use Rattle.fdb_sections.specs.Receipts.{ReceiptAtFront, OutcomeAtFront, IsTurnedDown}
@@ -45,6 +46,16 @@ is_handed_back refusal.Chain = true
 is_handed_back refusal.Closed = true
 is_handed_back why = false
 
+-- whether a refusal says that the transaction has no place in the book, and gets none
+abbrev pub is_without_place : Refusal → Bool
+is_without_place refusal.Failed = true
+is_without_place refusal.Exhausted = true
+is_without_place refusal.BookFull = true
+is_without_place (refusal.Repeated place) = true
+is_without_place refusal.Chain = true
+is_without_place refusal.Closed = true
+is_without_place why = false
+
 -- What a refusal tells of the book that the session has seen then: the transaction stands there and isn't committed, or
 -- the book is full. Nothing is told by any other one.
 abbrev pub Tells : Config → List Entry → Transcript → Refusal → Type 0
@@ -66,7 +77,8 @@ pub record HasReceipt (old : Session) (transcript : Transcript) (receipt : Recei
       current = None;
     }
 
--- The session has the transcript back, and nothing open. It has seen at least as much of the book as before.
+-- The session has the transcript back, and nothing open. It has seen at least as much of the book as before. Where it
+-- is told that its transaction has no place, none that it has seen is it.
 pub record HasTranscript (config : Config) (old : Session) (transcript : Transcript)
     (refused : Refused (Option Transcript)) (new : Session) : Type 0 where
   pub back : refused.back ≡ Some transcript
@@ -74,6 +86,7 @@ pub record HasTranscript (config : Config) (old : Session) (transcript : Transcr
   pub tells : Tells config new.front transcript refused.why
   pub begins : IsPrefix old.front new.front
   pub left : new ≡ record old { front = new.front; current = None }
+  pub absent : is_without_place refused.why ≡ true → IsNowhere (commit_request_of transcript) new.front
 
 -- Memory ran out before the proxy took the request: the transaction is open as it was, and isn't handed back.
 abbrev pub IsOpenAgain : Session → Transcript → Refused (Option Transcript) → Session → Type 0
@@ -97,6 +110,13 @@ is_untaken why = false
 abbrev pub plain_reason : Refusal → Refusal
 plain_reason why = if is_handed_back why && not (is_shown why) then why else refusal.CommitUnknownResult
 
+-- It is told this; but where that says that the transaction has no place and the front shows one, it doesn't know what
+-- became of it.
+abbrev pub IsUnlessShown : List Entry → Transcript → Refusal → Refusal → Type 0
+IsUnlessShown front transcript plain why =
+    ((why ≡ plain) × (is_without_place plain ≡ true → IsNowhere (commit_request_of transcript) front))
+    ⊎ ((why ≡ refusal.CommitUnknownResult) × (IsNowhere (commit_request_of transcript) front → ⊥))
+
 -- it is answered by the outcome that it is told, or doesn't know it
 abbrev pub IsByOutcome : Session → OutcomeAtFront → Transcript → Result ReceiptAtFront (Refused (Option Transcript))
     → Session → Type 0
@@ -104,28 +124,30 @@ IsByOutcome it told transcript (Ok receipt) new = TakesOutcome it told transcrip
 IsByOutcome it told transcript (Err refused) new = TakesOutcome it told transcript (Err refused.why) new
 
 -- It sees the front that is to show that the book is full, which it is where that has as many entries as a book may
--- have. Where memory runs out for that, it doesn't know.
-abbrev pub IsByFull : Config → Session → List Entry → Refusal → Session → Type 0
-IsByFull config it front why new =
+-- have, and without the transaction. Where memory runs out for that, it doesn't know.
+abbrev pub IsByFull : Config → Session → Transcript → List Entry → Refusal → Session → Type 0
+IsByFull config it transcript front why new =
     ((new ≡ seeing it front)
-    × (why ≡ (if length new.front == config.book then refusal.BookFull else refusal.CommitUnknownResult)))
+    × IsUnlessShown new.front transcript
+    (if length new.front == config.book then refusal.BookFull else refusal.CommitUnknownResult) why)
     ⊎ ((new ≡ it) × (why ≡ refusal.CommitUnknownResult))
 
 -- It is refused with no front to show why: it is open again where its request was never taken, and else it is answered
--- that reason, if a session may be.
+-- that reason, if a session may be, unless the own front shows the transaction.
 abbrev pub IsByReason : Session → Transcript → Refusal → Result ReceiptAtFront (Refused (Option Transcript)) → Session
     → Type 0
 IsByReason it transcript why (Ok receipt) new = ⊥
 IsByReason it transcript why (Err refused) new =
     (is_untaken why ≡ true → IsOpenAgain it transcript refused new)
-    × (is_untaken why ≡ false → (refused.why ≡ plain_reason why) × (new ≡ it))
+    × (is_untaken why ≡ false → IsUnlessShown it.front transcript (plain_reason why) refused.why × (new ≡ it))
 
 -- A session is answered what it is told: what became of its transaction, that the book is full, or that it is refused.
 abbrev pub IsToldSo : {B : Type 0} → Config → Session → Transcript → CommitReply B
     → Result ReceiptAtFront (Refused (Option Transcript)) → Session → Type 0
 IsToldSo config it transcript (reply.Outcome told) result new = IsByOutcome it told transcript result new
 IsToldSo config it transcript (reply.Full front) (Ok receipt) new = ⊥
-IsToldSo config it transcript (reply.Full front) (Err refused) new = IsByFull config it front refused.why new
+IsToldSo config it transcript (reply.Full front) (Err refused) new =
+    IsByFull config it transcript front refused.why new
 IsToldSo config it transcript (reply.Refused why) result new = IsByReason it transcript why result new
 
 -- why a session's transaction can't be submitted

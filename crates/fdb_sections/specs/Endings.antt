@@ -12,7 +12,8 @@ use Rattle.fdb_sections.specs.declared.session_state.settling.Ended.TheVariants.
 use Rattle.fdb_sections.specs.Receipts.{read_only_receipt}
 use Rattle.fdb_sections.specs.Sessions.{Session, IsOpenAt}
 
--- a transaction that wrote nothing has its receipt on the front, and any other is submitted, as the request that it makes
+-- a transaction that wrote nothing has its receipt on the front, and any other is submitted, as the request that it
+-- makes
 abbrev pub IsEnded : {B : Type 0} → List Entry → Transcript → Ended B → Type 0
 IsEnded front transcript (Acknowledged receipt) =
     (is_read_only transcript ≡ true) × (receipt ≡ read_only_receipt front transcript)

@@ -1,6 +1,8 @@
 -- What sessions come to and are told, computed.
-use Rattle.std.specs.Prelude.{◌≡◌, ℕ, true, false, List, [], ◌∷◌, Some, None, Err}
+use Rattle.std.specs.Prelude.{◌≡◌, ℕ, true, false, List, [], ◌∷◌, Option, Some, None, Result, Err}
+use Rattle.fdb_keys.specs.declared.refusal.Refusal.{Refusal}
 use Rattle.fdb_keys.specs.declared.refusal.Refusal.TheVariants as refusal
+use Rattle.fdb_keys.specs.declared.refusal.Refused.{Refused}
 use Rattle.fdb_txn.specs.declared.entry.Entry.{Entry}
 use Rattle.fdb_txn.specs.declared.spot.Spot.TheVariants as spot
 use Rattle.fdb_proxy.specs.declared.config.Config.{Config}
@@ -113,12 +115,30 @@ has_seen = record fresh { front = two_in_one_entry }
 -- The book is full where the front has as many entries as it may have; where it has fewer, nobody is told so.
 abbrev pub WorkedFullBooks : Type 0
 WorkedFullBooks =
-    IsByFull (of_book 1) fresh two_in_one_entry refusal.BookFull has_seen
-    × (IsByFull (of_book 2) fresh two_in_one_entry refusal.BookFull has_seen → ⊥)
-    × (IsByFull (of_book 1) fresh two_in_one_entry refusal.BookFull fresh → ⊥)
-    × (IsByFull (of_book 1) fresh two_in_one_entry refusal.Failed has_seen → ⊥)
+    IsByFull (of_book 1) fresh (opened 100) two_in_one_entry refusal.BookFull has_seen
+    × (IsByFull (of_book 2) fresh (opened 100) two_in_one_entry refusal.BookFull has_seen → ⊥)
+    × (IsByFull (of_book 1) fresh (opened 100) two_in_one_entry refusal.BookFull fresh → ⊥)
+    × (IsByFull (of_book 1) fresh (opened 100) two_in_one_entry refusal.Failed has_seen → ⊥)
     × Tells (of_book 1) two_in_one_entry does_nothing refusal.BookFull
     × (Tells (of_book 2) two_in_one_entry does_nothing refusal.BookFull → ⊥)
+
+-- who is refused so, with the transcript
+abbrev pub back : Refusal → Transcript → Result ReceiptAtFront (Refused (Option Transcript))
+back why transcript = Err (record { why = why; back = Some transcript })
+
+-- Whose transaction stands on the front is never told that the book is full or that a role failed, but that it isn't
+-- known what became of it; whose doesn't is told just that.
+abbrev pub WorkedPlaces : Type 0
+WorkedPlaces =
+    (IsByFull (of_book 1) fresh (reads_and_sets 1 None) two_in_one_entry refusal.BookFull has_seen → ⊥)
+    × IsByFull (of_book 1) fresh (reads_and_sets 1 None) two_in_one_entry refusal.CommitUnknownResult has_seen
+    × (IsByFull (of_book 1) fresh (opened 100) two_in_one_entry refusal.CommitUnknownResult has_seen → ⊥)
+    × (IsByReason has_seen (reads_and_sets 1 None) refusal.Failed (back refusal.Failed (reads_and_sets 1 None)) has_seen
+    → ⊥)
+    × IsByReason has_seen (reads_and_sets 1 None) refusal.Failed
+    (back refusal.CommitUnknownResult (reads_and_sets 1 None)) has_seen
+    × (IsByReason has_seen (opened 100) refusal.Failed (back refusal.CommitUnknownResult (opened 100)) has_seen → ⊥)
+    × IsByReason has_seen (opened 100) refusal.Failed (back refusal.Failed (opened 100)) has_seen
 
 -- The first reason stays why a shard's thread ended, but for the end of the database, which only a failure of the shard
 -- itself stands before. Then nobody reads there, also at a version that the shard has come to; after any other end who

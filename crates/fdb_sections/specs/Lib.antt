@@ -1,3 +1,4 @@
+pub mod Absent
 pub mod Clients
 pub mod CommitMachines
 pub mod CommitProxiesAtFronts

@@ -114,8 +114,10 @@ impl<B: ClusterName> Client<B> {
         self.state.read_version()
     }
 
-    /// Opens a transaction, as `SessionState::begin` does and refuses. Refused as `WrongState` while the session isn't
-    /// told what became of the one that it submitted; then nothing changes.
+    /// Opens a transaction without operations, at the greater of the granted version and the session's mark, and answers
+    /// that version, which the session's front then reaches. One that was open is abandoned. Refused as `WrongState`
+    /// while the session isn't told what became of the one that it submitted, as `Exhausted` once all numbers but the
+    /// greatest one are used, and as `NoMemory`; then nothing changes.
     pub fn begin(&mut self, alloc: Global, granted: &GrantMessage<B>) -> Result<u64, Refusal>
         ensures answers { Answers result (unless_submitted self.old (begin_fault self.old.session)) (λ version.
             (version ≡ max granted.now.committed self.old.session.mark)
@@ -134,7 +136,8 @@ impl<B: ClusterName> Client<B> {
         self.state.begin(alloc, granted)
     }
 
-    /// The open transaction buffers a copy of the mutation, as `SessionState::write` does and refuses.
+    /// The open transaction buffers a copy of the mutation. Refused as `NoTransaction` where none is open, else as
+    /// `Txn::write` refuses it; then nothing changes.
     pub fn write(&mut self, mutation: &Mutation) -> Result<(), Refusal>
         ensures answers { OfOpen self.old.session.current result (λ transcript.
             Answers result (mutation_fault mutation.now) (λ _. self.new ≡ record self.old {
@@ -147,7 +150,8 @@ impl<B: ClusterName> Client<B> {
         self.state.write(mutation)
     }
 
-    /// The open transaction adds the range to its read set, as `SessionState::add_read` does and refuses.
+    /// The open transaction adds the range to its read set, whole. Refused as `NoTransaction` where none is open, and
+    /// as `NoMemory`; then nothing changes.
     pub fn add_read(&mut self, range: &KeyRange) -> Result<(), Refusal>
         ensures answers { OfOpen self.old.session.current result (λ transcript.
             Answers result None (λ _. self.new ≡ record self.old {
@@ -160,7 +164,8 @@ impl<B: ClusterName> Client<B> {
         self.state.add_read(range)
     }
 
-    /// The open transaction adds the range to its write set, as `SessionState::add_write` does and refuses.
+    /// The open transaction adds the range to its write set, whole. Refused as `NoTransaction` where none is open, and
+    /// as `NoMemory`; then nothing changes.
     pub fn add_write(&mut self, range: &KeyRange) -> Result<(), Refusal>
         ensures answers { OfOpen self.old.session.current result (λ transcript.
             Answers result None (λ _. self.new ≡ record self.old {
@@ -173,8 +178,9 @@ impl<B: ClusterName> Client<B> {
         self.state.add_write(range)
     }
 
-    /// Learns of a receipt, as `SessionState::learn` does and refuses. Refused as `WrongState` while the session isn't
-    /// told what became of the transaction that it submitted; then nothing changes.
+    /// Learns of a receipt of the database: the front becomes the longer of both, and the mark the greater of itself
+    /// and the version of the receipt's spot. Refused as `WrongState` while the session isn't told what became of the
+    /// transaction that it submitted, and as `NoMemory`; then nothing changes.
     pub fn learn(&mut self, receipt: &Receipt<B>) -> Result<(), Refusal>
         ensures answers { Answers result (unless_submitted self.old None)
             (λ _. self.new ≡ record self.old { session = learning self.old.session receipt.now }) }
@@ -188,14 +194,18 @@ impl<B: ClusterName> Client<B> {
         self.state.learn(receipt)
     }
 
-    /// Whether the open transaction's own writes decide the key, as `SessionState::decides` says.
+    /// Whether the open transaction's own writes decide the key: then a read of the key asks no shard. False where none
+    /// is open. It takes no memory, and O(log n) time for n keys and ranges that they hold.
     pub fn decides(&self, key: &Key) -> bool
         ensures { result ≡ own_writes_decide self.now.session.current key.now }
     {
         self.state.decides(key)
     }
 
-    /// The value of the key after the open transaction's own writes, as `SessionState::get_at` gives and refuses it.
+    /// The value of the key after the open transaction's own writes, on the serial map of the session's front at the
+    /// read version, noted with the operation. The shard is asked where the own writes don't decide the key. Refused as
+    /// `NoTransaction` where none is open, as `NoMemory`, and, where the shard is asked, as the shard refuses a read of
+    /// the key at that version; then nothing changes. It takes what `Txn::get` takes, and a read of the shard.
     pub fn get_at(
         &mut self,
         at: &ShardAt<B>,
@@ -214,8 +224,9 @@ impl<B: ClusterName> Client<B> {
         self.state.get_at(at, key, is_snapshot)
     }
 
-    /// The value of the key that the open transaction's own writes decide, as `SessionState::get_decided` gives and
-    /// refuses it.
+    /// The value of the key that the open transaction's own writes decide, which no shard is asked for, noted with the
+    /// operation. Refused as `NoTransaction` where none is open, as `NoMemory`, and as `KeyOutsideLegalRange` where its
+    /// writes don't decide the key; then nothing changes. It takes what `Txn::get` takes.
     pub fn get_decided(
         &mut self,
         alloc: Global,
@@ -233,8 +244,11 @@ impl<B: ClusterName> Client<B> {
         self.state.get_decided(alloc, key, is_snapshot)
     }
 
-    /// The pairs of the range after the open transaction's own writes, as `SessionState::get_range_at` gives and
-    /// refuses them.
+    /// The pairs of the range after the open transaction's own writes, on the serial map of the session's front at the
+    /// read version, as `Txn::get_range` gives them, noted with the operation. The shards are asked one after another.
+    /// Refused as `NoTransaction` where none is open, as `NoMemory`, and as `LentShards::new` refuses to lend the shards
+    /// for the range at that version; then nothing changes. It takes what `Txn::get_range` takes, with pages of the
+    /// shards.
     pub fn get_range_at(
         &mut self,
         alloc: Global,
@@ -256,8 +270,8 @@ impl<B: ClusterName> Client<B> {
             .get_range_at(alloc, shards, range, limit, reverse, is_snapshot)
     }
 
-    /// The version that the open transaction reads at, and the session's front once more, which reaches it, as
-    /// `SessionState::share_open` gives and refuses them.
+    /// The version that the open transaction reads at, and the session's front once more, which reaches it. Refused as
+    /// `NoTransaction` where none is open, and as `NoMemory`.
     pub fn share_open(&self) -> Result<(u64, KnownFront<B>), Refusal>
         ensures answers { OfOpen self.now.session.current result (λ transcript. Answers result None
             (λ shared. shared ≡ (transcript.read_version, self.now.session.front))) }
@@ -314,8 +328,12 @@ impl<B: ClusterName> Client<B> {
         }
     }
 
-    /// Ends the transaction that was submitted by what the session's commit proxy tells, as `SessionState::end` does.
-    /// Refused as `WrongState` where none is submitted; then nothing changes, and nothing is handed back.
+    /// Ends the transaction that was submitted by what the session's commit proxy tells: it gives its receipt, or says
+    /// why there is none and hands the transcript back. The transaction is open again where the proxy never took the
+    /// request, since memory ran out. Who is told that it has no place in the book, and whose front shows one, is
+    /// answered `CommitUnknownResult`. Refused as `WrongState` where none is submitted; then nothing changes, and
+    /// nothing is handed back. It takes O(1) time where there is a receipt, and at the most O(n) for the n transactions
+    /// of the entries that the front shows above the read version where there is none.
     pub fn settle(
         &mut self,
         book: u32,

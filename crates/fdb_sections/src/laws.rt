@@ -1,6 +1,6 @@
 //! What sessions come to and are told, for the reader of their definitions.
-ghost use Rattle.fdb_sections.specs.Examples.{WorkedEndings, WorkedFullBooks, WorkedReasons, WorkedSessions};
-ghost use Rattle.fdb_sections.specs.Examples.{WorkedTurnedDown, WorkedUntaken};
+ghost use Rattle.fdb_sections.specs.Examples.{WorkedEndings, WorkedFullBooks, WorkedPlaces, WorkedReasons};
+ghost use Rattle.fdb_sections.specs.Examples.{WorkedSessions, WorkedTurnedDown, WorkedUntaken};
 
 /// What a session comes to that begins and learns, which transactions are turned down, why a session is refused,
 /// when its transaction is open again, when it is told that the book is full, and why a shard's thread ended, by
@@ -11,5 +11,6 @@ pub fn worked_examples()
     ensures reasons { WorkedReasons }
     ensures untaken { WorkedUntaken }
     ensures full_books { WorkedFullBooks }
+    ensures places { WorkedPlaces }
     ensures endings { WorkedEndings }
 {}

@@ -32,6 +32,7 @@ use std::alloc::Global;
 use std::marker::Model;
 use std::mem;
 
+mod absent;
 mod ending;
 mod reading;
 pub(crate) mod settling;

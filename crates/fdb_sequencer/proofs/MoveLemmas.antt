@@ -1,11 +1,10 @@
 -- What a proxy hasn't had comes after the moves that it has had, among those that took effect.
-use Rattle.std.proofs.Common.{◌≡◌, ◌∙◌, sym, ap, refl, ℕ, zero, suc, ◌≤◌, Bool, true, false, ◌&&◌, ◌==◌, List, [], ◌∷◌}
+use Rattle.std.proofs.Common.{◌≡◌, ◌∙◌, sym, ap, refl, ℕ, zero, suc, ◌<◌, ◌≤◌, Bool, ◌&&◌, List, [], ◌∷◌}
 use Rattle.std.proofs.Common.{◌++◌, map, length, take, drop, replicate, slice_set, arith}
 use Rattle.std.specs.List.{AllByRecursion}
 use Rattle.std.specs.Cmp.Lexicographic.{pointwise}
 use Rattle.std.proofs.Math.Bool.{and_assoc}
-use Rattle.std.proofs.lemmas.Bool.{eqb-true}
-use Rattle.std.proofs.lemmas.List.{map-set, drop-append-le, drop_all, append-nil, nil_from_length}
+use Rattle.std.proofs.lemmas.List.{map-set, drop-append-le, drop_all, append-nil}
 use Rattle.fdb_txn.specs.declared.entry.Move.{Move}
 use Rattle.fdb_sequencer.specs.declared.dated.Dated.{Dated}
 use Rattle.fdb_sequencer.specs.Moves.{dated, Moves, in_effect}
@@ -29,10 +28,10 @@ issued_more issued more (count ∷ had) within = λ i. drop-append-le count issu
 pub issued_at : (issued new : List Dated) (taken pending : List Move) (had : List ℕ) (version : ℕ)
     → AllByRecursion (λ (count : ℕ). count ≤ length issued) had
     → new ≡ issued ++ record { version = version; moves = taken } ∷ []
-    → taken ≡ pending → (length pending == 0) ≡ false
+    → taken ≡ pending → 0 < length pending
     → map (λ (count : ℕ). drop count new) had
     ≡ map (λ (moves : List Dated). moves ++ dated version pending) (map (λ (count : ℕ). drop count issued) had)
-issued_at issued new taken [] had version within put took some = absurd (let same : true ≡ false = some in cc)
+issued_at issued new taken [] had version within put took some = absurd (omega (arith, some))
 issued_at issued new taken (move ∷ pending) had version within put took some =
     let at : List Move → Dated = λ (moves : List Move). record { version = version; moves = moves } in
     (λ i. map (λ (count : ℕ). drop count ((put ∙ ap (λ (moves : List Move). issued ++ at moves ∷ []) took) i)) had)
@@ -43,9 +42,8 @@ nothing_more : (lists : List (List Dated)) → map (λ (moves : List Dated). mov
 nothing_more [] = refl
 nothing_more (moves ∷ lists) = λ i. append-nil moves i ∷ nothing_more lists i
 
-pub nothing_in_effect : (m : Moves) (version : ℕ) → (length m.pending == 0) ≡ true → m ≡ in_effect m version
-nothing_in_effect m version none =
-    let empty : m.pending ≡ [] = nil_from_length m.pending (eqb-true (length m.pending) 0 none) in
+pub nothing_in_effect : (m : Moves) (version : ℕ) → m.pending ≡ [] → m ≡ in_effect m version
+nothing_in_effect m version empty =
     let same : map (λ (moves : List Dated). moves ++ dated version m.pending) m.unlearnt ≡ m.unlearnt =
     (λ i. map (λ (moves : List Dated). moves ++ dated version (empty i)) m.unlearnt) ∙ nothing_more m.unlearnt in
     λ i. record { pending = empty i; unlearnt = sym same i }

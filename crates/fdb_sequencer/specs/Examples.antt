@@ -3,7 +3,7 @@ use Rattle.std.specs.Prelude.{◌≡◌, ℕ, [], ◌∷◌, Some, None}
 use Rattle.fdb_keys.specs.declared.refusal.Refusal.TheVariants.{Stale, Exhausted, BadConfig, MovesFull}
 use Rattle.fdb_txn.specs.declared.entry.Move.{Move}
 use Rattle.fdb_sequencer.specs.Sequencer.{Sequencer, new_fault, next_version, planned, plan_fault, accept_fault}
-use Rattle.fdb_sequencer.specs.Sequencer.{accepting, move_fault, report_fault}
+use Rattle.fdb_sequencer.specs.Sequencer.{accepting, move_fault, report_fault, reporting}
 
 -- a sequencer of two proxies and two resolvers, by its accepted tickets, its last version and the moves made
 abbrev pub sequencer : ℕ → ℕ → ℕ → Sequencer
@@ -59,10 +59,15 @@ WorkedMoves =
     × (move_fault (sequencer 0 0 65536) (some_keys 1) ≡ Some MovesFull)
     × (move_fault (sequencer 0 0 65535) (some_keys 1) ≡ None)
 
--- A version that wasn't issued can't be reported.
+-- A version that wasn't issued can't be reported. A report of a lesser version than an earlier one leaves that one.
 abbrev pub WorkedReports : Type 0
 WorkedReports =
-    (report_fault (sequencer 0 100 0) 101 ≡ Some BadConfig) × (report_fault (sequencer 0 100 0) 100 ≡ None)
+    (report_fault (sequencer 0 100 0) 101 ≡ Some BadConfig)
+    × (report_fault (sequencer 0 100 0) 100 ≡ None)
+    × ((reporting (sequencer 0 100 0) 70).committed ≡ 70)
+    × ((reporting (reporting (sequencer 0 100 0) 70) 60).committed ≡ 70)
+    × ((reporting (reporting (sequencer 0 100 0) 70) 80).committed ≡ 80)
+    × ((accepting (reporting (sequencer 0 100 0) 70) (planned (sequencer 0 100 0) 0 100)).committed ≡ 70)
 
 -- There are 1 to 16 proxies, 1 to 64 resolvers and versions through 2^62.
 abbrev pub WorkedNumbers : Type 0

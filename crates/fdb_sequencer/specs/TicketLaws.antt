@@ -1,7 +1,7 @@
--- Which tickets are accepted, that they make a book, and which moves they tell their proxies.
+-- Which tickets are accepted, that they make a book, which moves they tell their proxies, and what is committed.
 use Rattle.std.specs.Prelude.{◌≡◌, ◌+◌, ◌<◌, ◌≤◌, ◌++◌, ◌==◌, ⊤, ℕ, List, [], ◌∷◌, map, filter, flat_map, fold, length}
-use Rattle.std.specs.Prelude.{slice_get, Some, None, if◌then◌else◌}
-use Rattle.std.specs.List.{AllByRecursion}
+use Rattle.std.specs.Prelude.{slice_get, Some, None, true, if◌then◌else◌}
+use Rattle.std.specs.List.{AllByRecursion, list_any}
 use Rattle.fdb_keys.specs.declared.refusal.Refusal.TheVariants.{Stale}
 use Rattle.fdb_txn.specs.declared.entry.Entry.{Entry}
 use Rattle.fdb_txn.specs.declared.entry.Move.{Move}
@@ -13,7 +13,7 @@ use Rattle.fdb_txn.specs.Limits.{greatest_advance}
 use Rattle.fdb_sequencer.specs.declared.dated.Dated.{Dated}
 use Rattle.fdb_sequencer.specs.Moves.{dated}
 use Rattle.fdb_sequencer.specs.Sequencer.{Sequencer, IsSequencer, fresh, unlearnt_by, planned, plan_fault, accept_fault}
-use Rattle.fdb_sequencer.specs.Sequencer.{accepting, move_fault, moving}
+use Rattle.fdb_sequencer.specs.Sequencer.{accepting, move_fault, moving, reporting}
 
 -- what changes which tickets may come: a move is made, or a ticket is accepted
 pub data Act : Type 0 where
@@ -155,3 +155,33 @@ PlannedMayBeLearnt =
     → (proxy advance : ℕ) → plan_fault (fold after (fresh proxies resolvers last) acts) proxy advance ≡ None
     → MayBeLearnt resolvers (last_of proxy 0 (tickets_in acts))
     (planned (fold after (fresh proxies resolvers last) acts) proxy advance)
+
+-- what else is done to a sequencer: an act, or a report
+pub data Call : Type 0 where
+  Acts : (act : Act) → Call
+  Reports : (version : ℕ) → Call
+
+abbrev pub after_call : Sequencer → Call → Sequencer
+after_call s (Acts act) = after s act
+after_call s (Reports version) = reporting s version
+
+-- the versions that are reported, in order
+abbrev pub reported_in : List Call → List ℕ
+reported_in [] = []
+reported_in (Acts act ∷ calls) = reported_in calls
+reported_in (Reports version ∷ calls) = version ∷ reported_in calls
+
+-- one of the numbers is this one, and none is greater
+abbrev pub IsGreatest : ℕ → List ℕ → Type 0
+IsGreatest greatest numbers =
+    AllByRecursion (λ (one : ℕ). one ≤ greatest) numbers × (list_any (λ (one : ℕ). one == greatest) numbers ≡ true)
+
+-- at first no version is committed: 0 is
+abbrev pub NothingIsCommittedFirst : Type 0
+NothingIsCommittedFirst = (proxies resolvers last : ℕ) → (fresh proxies resolvers last).committed ≡ 0
+
+-- Whatever is done, the committed version is the greatest one of those that were reported and of the one before.
+abbrev pub CommittedIsTheGreatestReported : Type 0
+CommittedIsTheGreatestReported =
+    (s : Sequencer) (calls : List Call)
+    → IsGreatest (fold after_call s calls).committed (s.committed ∷ reported_in calls)

@@ -1,5 +1,5 @@
-//! What `==` says of tickets, which tickets are accepted, that they make a book, and which moves they tell their
-//! proxies.
+//! What `==` says of tickets, which tickets are accepted, that they make a book, which moves they tell their proxies,
+//! and which version is committed.
 ghost use Rattle.std.specs.Prelude.{◌≡◌};
 ghost use Rattle.std.specs.Bool.{Decides};
 ghost use Rattle.fdb_sequencer.specs.Equality.{ticket_eq};
@@ -8,6 +8,7 @@ ghost use Rattle.fdb_sequencer.specs.Examples.{WorkedNumbers};
 ghost use Rattle.fdb_sequencer.specs.TicketLaws.{PlannedAreAccepted, AcceptedArePlanned, AcceptedOnce, IndicesCountUp};
 ghost use Rattle.fdb_sequencer.specs.TicketLaws.{TicketsMakeABook, FirstTicketsAreABook, EachMoveTakesEffectOnce};
 ghost use Rattle.fdb_sequencer.specs.TicketLaws.{EachProxyGetsEachMoveOnce, PlannedMayBeLearnt};
+ghost use Rattle.fdb_sequencer.specs.TicketLaws.{NothingIsCommittedFirst, CommittedIsTheGreatestReported};
 
 use crate::ticket::Ticket;
 
@@ -49,6 +50,12 @@ pub fn each_proxy_gets_each_move_once()
 /// that exist.
 pub fn planned_tickets_may_be_learnt()
     ensures { PlannedMayBeLearnt }
+{}
+
+/// The committed version is the greatest one that was reported, whatever else is done in between, and 0 at first.
+pub fn the_greatest_reported_version_is_committed()
+    ensures first { NothingIsCommittedFirst }
+    ensures greatest { CommittedIsTheGreatestReported }
 {}
 
 /// Which versions tickets have, and why calls are refused, by examples: each limit, and which refusal comes first.

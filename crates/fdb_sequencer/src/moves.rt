@@ -1,26 +1,25 @@
 // The moves of a sequencer, and which of them each proxy has had.
-ghost use Rattle.std.specs.Prelude.{◌≡◌, ◌&&◌, ◌==◌, ◌++◌, length, IfOk};
+ghost use Rattle.std.specs.Prelude.{◌≡◌, ◌++◌, ◌∷◌, [], IfOk, OnOk, OnErr};
 ghost use Rattle.std.specs.Cmp.Lexicographic.{pointwise};
 ghost use Rattle.fdb_sequencer.specs.Equality.{dated_eq};
 ghost use Rattle.fdb_sequencer.specs.Moves.{dated};
 
 use crate::dated::Dated;
-use fdb_keys::Items;
+use fdb_keys::{Items, SharedList};
 use fdb_txn::Move;
 use std::alloc::{AllocError, Global};
 use std::marker::Model;
-use std::mem;
 
 /// The moves that were made, and which of them each proxy has had.
 ///
 /// Who accepts a ticket must not need memory for that. So there is always room for the pending moves among those that
-/// took effect, which stand there once for all proxies.
+/// took effect. Each move stands once for all proxies and tickets, which share the list that it is in.
 #[derive(Drop)]
 pub(crate) struct Moves {
     // those that took effect, by version
     issued: Vec<Dated>,
-    // those that take effect with the next ticket
-    pending: Items<Move>,
+    // those that take effect with the next ticket, if there are some
+    pending: Option<SharedList<Move>>,
     // for each proxy how many of `issued` it has had
     had: Vec<usize>,
 }
@@ -48,7 +47,7 @@ impl Moves {
     {
         Ok(Moves {
             issued: Vec::new(alloc),
-            pending: Items::new(alloc),
+            pending: None,
             had: vec![in alloc; 0; proxies as usize]?,
         })
     }
@@ -59,15 +58,22 @@ impl Moves {
         ensures err { OnErr result (self.new ≡ self.old) }
     {
         self.issued.reserve(1)?;
-        self.pending.push(one_move)?;
+        let alloc = *self.issued.allocator();
+        if let Some(pending) = &mut self.pending {
+            return add_to(alloc, pending, one_move);
+        }
+        self.pending = Some(list_of(alloc, one_move)?);
         Ok(())
     }
 
     /// The moves that take effect with the next ticket, the earliest one first.
-    pub(crate) fn pending(&self) -> &Items<Move>
+    pub(crate) fn pending(&self) -> &[Move]
         ensures { result.now ≡ self.now.pending }
     {
-        &self.pending
+        match &self.pending {
+            Some(pending) => pending.as_slice(),
+            None => &[],
+        }
     }
 
     // The moves that the proxy hasn't had, but for the pending ones.
@@ -78,14 +84,15 @@ impl Moves {
         &self.issued[self.had[proxy as usize]..]
     }
 
-    /// The moves that the proxy hasn't had, once the pending ones take effect at the version.
+    /// The moves that the proxy hasn't had, once the pending ones take effect at the version. No move is copied: it
+    /// takes O(1) for each list of them.
     pub(crate) fn moves_at(&self, proxy: u32, version: u64) -> Result<Items<Dated>, AllocError>
         requires { proxy < length self.now.unlearnt }
         ensures { IfOk result (λ moves. moves ≡ moves_at self.now proxy version) }
     {
-        let mut moves = copies_by_version(*self.issued.allocator(), self.unlearnt(proxy))?;
-        if !self.pending.is_empty() {
-            let pending = self.copy_pending()?;
+        let mut moves = shares_of(*self.issued.allocator(), self.unlearnt(proxy))?;
+        if let Some(pending) = &self.pending {
+            let pending = pending.clone()?;
             moves.push(Dated {
                 version,
                 moves: pending,
@@ -94,11 +101,14 @@ impl Moves {
         Ok(moves)
     }
 
-    /// A copy of the pending moves.
-    pub(crate) fn copy_pending(&self) -> Result<Items<Move>, AllocError>
+    /// A share of the pending moves.
+    pub(crate) fn share_pending(&self) -> Result<SharedList<Move>, AllocError>
         ensures { IfOk result (λ moves. moves ≡ self.now.pending) }
     {
-        Move::copies(*self.issued.allocator(), self.pending.as_slice())
+        match &self.pending {
+            Some(pending) => pending.clone(),
+            None => no_moves(*self.issued.allocator()),
+        }
     }
 
     /// Whether the list is that of the moves that the proxy hasn't had, once the pending ones take effect at the
@@ -112,19 +122,16 @@ impl Moves {
             return false;
         }
         let (first, rest) = moves.split_at(unlearnt.len());
-        first == unlearnt && are_dated(rest, version, &self.pending)
+        first == unlearnt && are_dated(rest, version, self.pending())
     }
 
     // The pending moves take effect at the version. It takes no memory.
     fn issue(&mut self, version: u64)
         ensures { self.new ≡ in_effect self.old version }
     {
-        if self.pending.is_empty() {
-            return;
+        if let Some(moves) = self.pending.take() {
+            self.issued.push_reserved(Dated { version, moves });
         }
-        let none = Items::new(*self.issued.allocator());
-        let moves = mem::replace(&mut self.pending, none);
-        self.issued.push_reserved(Dated { version, moves });
     }
 
     /// The pending moves take effect at the version, with a ticket of the proxy, which has had all moves then. It takes
@@ -138,27 +145,58 @@ impl Moves {
     }
 }
 
+// Puts the move behind the others where no ticket shares them, and else behind a copy of them.
+fn add_to(alloc: Global, pending: &mut SharedList<Move>, one_move: Move) -> Result<(), AllocError>
+    ensures ok { OnOk result (pending.new ≡ pending.old ++ one_move ∷ []) }
+    ensures err { OnErr result (pending.new ≡ pending.old) }
+{
+    let Some(one_move) = pending.push_alone(one_move)? else {
+        return Ok(());
+    };
+    let mut copies = Move::copies(alloc, pending.as_slice())?;
+    copies.push(one_move)?;
+    *pending = SharedList::new(alloc, copies)?;
+    Ok(())
+}
+
+// The list of the one move.
+fn list_of(alloc: Global, one_move: Move) -> Result<SharedList<Move>, AllocError>
+    ensures { IfOk result (λ moves. moves ≡ one_move ∷ []) }
+{
+    let mut moves = Items::new(alloc);
+    moves.push(one_move)?;
+    Ok(SharedList::new(alloc, moves)?)
+}
+
+// The list of no move.
+fn no_moves(alloc: Global) -> Result<SharedList<Move>, AllocError>
+    ensures { IfOk result (λ moves. moves ≡ []) }
+{
+    Ok(SharedList::new(alloc, Items::new(alloc))?)
+}
+
 // Whether the list has just the moves of the version, and is empty where it moves nothing.
-fn are_dated(list: &[Dated], version: u64, moves: &Items<Move>) -> bool
+fn are_dated(list: &[Dated], version: u64, moves: &[Move]) -> bool
     ensures { result ≡ pointwise dated_eq list.now (dated version moves.now) }
 {
     match list {
         [] => moves.is_empty(),
-        [one] => !moves.is_empty() && one.version == version && one.moves == *moves,
+        [one] => !moves.is_empty() && one.version == version && one.moves.as_slice() == moves,
         _ => false,
     }
 }
 
-fn copies_by_version(alloc: Global, dated: &[Dated]) -> Result<Items<Dated>, AllocError>
-    ensures { IfOk result (λ copies. copies ≡ dated.now) }
+// Shares of the lists of moves.
+fn shares_of(alloc: Global, dated: &[Dated]) -> Result<Items<Dated>, AllocError>
+    ensures { IfOk result (λ shares. shares ≡ dated.now) }
 {
-    let mut copies_by_version = Items::new(alloc);
+    let mut shares = Items::new(alloc);
     for one in dated {
-        let moves = Move::copies(alloc, one.moves.as_slice())?;
-        copies_by_version.push(Dated {
+        let moves = one.moves.clone()?;
+        shares.push(Dated {
             version: one.version,
             moves,
         })?;
     }
-    Ok(copies_by_version)
+    Ok(shares)
 }

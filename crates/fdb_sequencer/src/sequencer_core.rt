@@ -73,7 +73,8 @@ impl SequencerCore {
     /// The ticket that the proxy's next batch would get now. Its index is the number of tickets that were
     /// accepted, its previous version is the last one, and its version is `advance` above that, but at least 1
     /// and at most 5,000,000. The moves since the last ticket that was accepted take effect at that version, and
-    /// the proxy gets them after all others that it hasn't had. It changes nothing.
+    /// the proxy gets them after all others that it hasn't had. It changes nothing. It takes O(1) for each version
+    /// whose moves the proxy hasn't had: no move is copied.
     ///
     /// Refused as `BadConfig` where no proxy has the number, and then as `Exhausted` where the version would
     /// exceed 2^62 or 2^32 tickets were accepted, and as `NoMemory`.
@@ -94,7 +95,7 @@ impl SequencerCore {
             version,
             prev: self.last,
             moves: self.moves.moves_at(proxy, version)?,
-            pending: self.moves.copy_pending()?,
+            pending: self.moves.share_pending()?,
         })
     }
 
@@ -130,7 +131,7 @@ impl SequencerCore {
             && self
                 .moves
                 .are_moves_at(ticket.moves.as_slice(), ticket.proxy, ticket.version)
-            && ticket.pending == *self.moves.pending()
+            && ticket.pending.as_slice() == self.moves.pending()
     }
 
     /// Makes a move: from the version of the next ticket that is accepted on, the keys of its range go to the resolver

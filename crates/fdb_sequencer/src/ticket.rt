@@ -1,5 +1,5 @@
 use crate::dated::Dated;
-use fdb_keys::Items;
+use fdb_keys::{Items, SharedList};
 use fdb_txn::Move;
 
 /// Where the batch of a commit proxy stands in the book, and which keys go over to other resolvers.
@@ -16,6 +16,6 @@ pub struct Ticket {
     /// All moves that the proxy hasn't had, each list with its entry's version, the pending ones among them
     /// under the ticket's version.
     pub moves: Items<Dated>,
-    /// The moves that take effect at the ticket's version, the earliest one first.
-    pub pending: Items<Move>,
+    /// The moves that take effect at the ticket's version, the earliest one first, which the sequencer shares.
+    pub pending: SharedList<Move>,
 }

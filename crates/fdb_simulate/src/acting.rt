@@ -350,12 +350,17 @@ impl<B: ClusterName> Sim<B> {
         }
     }
 
-    // Its commit proxy takes the request, or refuses it.
+    // Its commit proxy takes the request, or refuses it. Now and then no proxy takes it, as if memory had run out.
     fn submit(&mut self, number: u32, sealed: Sealed) {
+        let is_lost = self.draw(32) == 0;
         let count = self.roles.commits.len();
         if count == 0 || self.is_closed {
             drop(sealed);
             return self.settle(number, CommitReply::Refused(Refusal::Closed));
+        }
+        if is_lost {
+            drop(sealed);
+            return self.lose_request(number);
         }
         let Some(proxy) = self.roles.commits.get_mut(number as usize % count) else {
             return drop(sealed);
@@ -363,6 +368,15 @@ impl<B: ClusterName> Sim<B> {
         match proxy.submit(sealed, number) {
             Ok(()) => self.wish(number, Wish::Outcome),
             Err(refused) => self.settle(number, CommitReply::Refused(refused.why)),
+        }
+    }
+
+    // No proxy takes the request. Its transaction is open again then.
+    fn lose_request(&mut self, number: u32) {
+        Tally::add(&mut self.told.tally.untaken);
+        self.settle(number, CommitReply::Refused(Refusal::NoMemory));
+        if !self.is_open(number) {
+            Tally::add(&mut self.told.tally.unexplained);
         }
     }
 

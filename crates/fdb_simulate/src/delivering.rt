@@ -350,13 +350,21 @@ impl<B: ClusterName> Sim<B> {
         self.wish_after_refusal(number);
     }
 
-    // A client whose transaction is open again commits it once more, and any other begins another one.
-    fn wish_after_refusal(&mut self, number: u32) {
-        let is_open = match self.players.get(number as usize) {
+    /// Whether the client has an open transaction.
+    pub(crate) fn is_open(&self, number: u32) -> bool {
+        match self.players.get(number as usize) {
             Some(player) => player.client.read_version().is_some(),
             None => false,
+        }
+    }
+
+    // A client whose transaction is open again commits it once more, and any other begins another one.
+    fn wish_after_refusal(&mut self, number: u32) {
+        let wish = if self.is_open(number) {
+            Wish::Commit
+        } else {
+            Wish::Begin
         };
-        let wish = if is_open { Wish::Commit } else { Wish::Begin };
         self.wish(number, wish);
     }
 

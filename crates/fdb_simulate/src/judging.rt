@@ -52,7 +52,8 @@ fn count_unexplained(plan: &Plan, tally: &Tally, is_full: bool) -> u64 {
     if plan.closes_at.is_some() || is_full {
         return tally.unknown;
     }
-    let refused = tally.refused.saturating_sub(tally.forgotten);
+    let explained = tally.forgotten.saturating_add(tally.untaken);
+    let refused = tally.refused.saturating_sub(explained);
     tally.unknown.saturating_add(refused)
 }
 

@@ -14,9 +14,12 @@ pub struct Tally {
     pub refused: u64,
     /// How many of these read at a version that its shard doesn't serve any more, as it is too old.
     pub forgotten: u64,
+    /// How many of these no proxy took, as if memory had run out, so that they are committed once more.
+    pub untaken: u64,
     /// How many answers nothing in the plan explains: 0 where all is well. Where no role fails, nobody is told that
     /// nothing is known of a transaction; where the database isn't closed either, and its book isn't full, none is
-    /// refused but for a conflict or its age; and a version that is read at is forgotten only where it is too old.
+    /// refused but for a conflict or its age, or as no proxy took it, and then it is open again; and a version that is
+    /// read at is forgotten only where it is too old.
     pub unexplained: u64,
     /// How many of those that were refused as having no effect stand in the book: 0 where all is well.
     pub found: u64,
@@ -45,6 +48,7 @@ impl Tally {
             unknown: 0,
             refused: 0,
             forgotten: 0,
+            untaken: 0,
             unexplained: 0,
             found: 0,
             early: 0,

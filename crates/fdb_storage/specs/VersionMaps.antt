@@ -1,9 +1,10 @@
 -- Keys, each with its versions.
-use Rattle.std.specs.Prelude.{◌≡◌, ◌≤◌, ℕ, true, List, [], Option, Some, None, is_some}
+use Rattle.std.specs.Prelude.{◌≡◌, ◌≤◌, ℕ, true, List, [], length, Option, Some, None, is_some}
 use Rattle.std.specs.BTreeMap.{is_at}
 use Rattle.std.specs.Cmp.Lexicographic.{slice_cmp}
+use Rattle.std.specs.List.{sum_by}
 use Rattle.std.specs.List.Sorted.{IsStrictlySortedBy}
-use Rattle.std.specs.Map.{lookup, keys_of}
+use Rattle.std.specs.Map.{lookup, keys_of, values_of}
 use Rattle.std.specs.Ordering.{nat_cmp}
 use Rattle.fdb_keys.specs.Points.{Point}
 use Rattle.fdb_keys.specs.Texts.{is_key}
@@ -28,6 +29,10 @@ versions_at keys x = listed (found keys x)
 -- what stands at the point at the version
 abbrev pub value_of : VersionedKeys → ℕ → Point → Option (List ℕ)
 value_of keys v x = value_up_to v (versions_at keys x)
+
+-- how many versions there are of all keys
+abbrev pub versions_of : VersionedKeys → ℕ
+versions_of keys = sum_by (λ (versions : List VersionedValue). length versions) (values_of keys)
 
 -- no version is above this one
 abbrev pub EndBy : ℕ → VersionedKeys → Type 0

@@ -41,12 +41,13 @@ impl Model for Shard {
 }
 
 impl Shard {
-    ghost use Rattle.std.specs.Prelude.{◌≡◌, ⊤, false, IsSome, IsNone, IfOk, OnErr};
+    ghost use Rattle.std.specs.Prelude.{◌≡◌, ⊤, min, false, IsSome, IsNone, IfOk, OnErr};
     ghost use Rattle.fdb_keys.specs.Answers.{Answers, AnswersExactly};
     ghost use Rattle.fdb_log.specs.Peeks.{IsPeek};
     ghost use Rattle.fdb_storage.specs.Shards.{IsNewShard, apply_fault, key_fault, range_fault, forget_fault};
     ghost use Rattle.fdb_storage.specs.Shards.{part_fault, read_fault, serving_fault, value_at, kept_of, IsPage};
     ghost use Rattle.fdb_storage.specs.Shards.{HasApplied};
+    ghost use Rattle.fdb_storage.specs.VersionMaps.{versions_of};
     ghost use Rattle.fdb_storage.specs.Shards.{HasCopied, IsKeptOutside, HasFailed, HasForgotten};
 
     /// The shard with the tag and the range, which has applied nothing and serves version 0 alone. It takes no memory.
@@ -178,6 +179,14 @@ impl Shard {
         ensures { self.now.is_failed ≡ false → result ≡ kept_of self.now key.now }
     {
         self.map.kept_from(self.alloc, key, self.floor)
+    }
+
+    /// How many versions of all keys are kept, also of those that no read needs any more, or the greatest number where
+    /// they are more. It takes no memory, and O(n) for n keys.
+    pub fn versions(&self) -> usize
+        ensures { result ≡ min usize.MAX (versions_of self.now.keys) }
+    {
+        self.map.versions()
     }
 
     /// The range of keys that the shard holds.

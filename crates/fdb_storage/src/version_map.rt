@@ -17,14 +17,14 @@ pub(crate) struct VersionMap {
 }
 
 impl VersionMap {
-    ghost use Rattle.std.specs.Prelude.{◌≡◌, ◌≤◌, ◌&&◌, [], ℕ, None, is_some, IfOk, OnOk, IsTrue};
+    ghost use Rattle.std.specs.Prelude.{◌≡◌, ◌≤◌, ◌&&◌, [], ℕ, min, None, is_some, IfOk, OnOk, IsTrue};
     ghost use Rattle.std.specs.List.{list_any};
     ghost use Rattle.std.specs.Option.{option_copied};
     ghost use Rattle.fdb_keys.specs.Points.{Point, point_eq};
     ghost use Rattle.fdb_keys.specs.Ranges.{in_range};
     ghost use Rattle.fdb_storage.specs.VersionLists.{newest_of, kept_from};
     ghost use Rattle.fdb_storage.specs.Changes.{HaveChanged};
-    ghost use Rattle.fdb_storage.specs.VersionMaps.{versions_at, value_of, EndBy, HaveLegalKeys};
+    ghost use Rattle.fdb_storage.specs.VersionMaps.{versions_at, versions_of, value_of, EndBy, HaveLegalKeys};
     ghost use Rattle.fdb_storage.specs.Changes.{put_at};
     ghost use Rattle.fdb_storage.specs.VersionMaps.{HaveForgotten};
 
@@ -68,6 +68,18 @@ impl VersionMap {
             Some(versions) => versions.kept_from(floor),
             None => VersionList::new(alloc).kept_from(floor),
         }
+    }
+
+    /// How many versions of all keys are kept, or the greatest number where they are more. It takes no memory, and O(n)
+    /// for n keys.
+    pub(crate) fn versions(&self) -> usize
+        ensures { result ≡ min usize.MAX (versions_of self.now.keys.entries) }
+    {
+        let mut count = 0usize;
+        for versions in self.keys.values() {
+            count = count.saturating_add(versions.len());
+        }
+        count
     }
 
     /// Lets the value stand at the key from the version on, in O(log n) comparisons for n keys.

@@ -3,7 +3,7 @@ ghost use Rattle.std.specs.Prelude.{◌≡◌};
 
 use crate::asserting::same;
 use fdb_book::laws::fronts_are_books;
-use fdb_book::{Blank, Book, BookName, Front, agree, append, append_and_share, empty};
+use fdb_book::{Blank, Book, BookName, Found, Front, agree, append, append_and_share, empty};
 use fdb_keys::{Items, RangeSet, Refusal, Refused};
 use fdb_making::{ask, ask_both, ask_mut, code_of, numbers_of, push, seal, shared};
 use fdb_txn::{Batch, Entry, PLACE_LIMIT, TxnId};
@@ -112,18 +112,32 @@ fn entry_of(alloc: Global, numbers: [u64; 3], ids: &[(u32, u64)]) -> Result<Entr
     Ok(Entry {
         version,
         prev,
-        moves: Items::new(alloc),
+        moves: shared(alloc, Items::new(alloc))?,
         batch: Batch::new(places),
     })
 }
 
+// The front one longer by the entry that was found, where there is one and it ends with that entry.
+fn front_found<B: BookName>(book: &Book<B>, found: Option<Found<B>>) -> Option<Front<B>> {
+    let found = found?;
+    let entry = found.entry(book);
+    let front = found.into_front()?;
+    let last = front.len().checked_sub(1)?;
+    if front.entry(last) == Some(entry) {
+        Some(front)
+    } else {
+        None
+    }
+}
+
 // The refusal's numbers, and the front that is handed out.
 fn handed_out<B: BookName>(
-    answer: Result<Front<B>, Refused<Option<Front<B>>>>,
+    book: &Book<B>,
+    answer: Result<Front<B>, Refused<Option<Found<B>>>>,
 ) -> ((u32, u64), Option<Front<B>>) {
     match answer {
         Ok(front) => ((0, 0), Some(front)),
-        Err(refused) => (numbers_of(refused.why), refused.back),
+        Err(refused) => (numbers_of(refused.why), front_found(book, refused.back)),
     }
 }
 
@@ -133,7 +147,7 @@ fn share_of<B: BookName>(
     book: &Book<B>,
     front: &Front<B>,
     entry: Entry,
-) -> Result<Front<B>, Refused<Option<Front<B>>>> {
+) -> Result<Front<B>, Refused<Option<Found<B>>>> {
     match front.share() {
         Ok(mut longer) => append_and_share(alloc, book, &mut longer, entry),
         Err(why) => Err(Refused { why, back: None }),
@@ -149,9 +163,9 @@ fn append_by<B: BookName>(
     shares: bool,
 ) -> ((u32, u64), Option<Front<B>>) {
     if shares {
-        handed_out(share_of(alloc, book, front, entry))
+        handed_out(book, share_of(alloc, book, front, entry))
     } else {
-        handed_out(append(alloc, book, front, entry))
+        handed_out(book, append(alloc, book, front, entry))
     }
 }
 
@@ -292,7 +306,7 @@ fn go_on_itself<B: BookName>(
     row: &GoneOn,
 ) -> Result<((u32, u64), usize, Option<Ordering>), Refusal> {
     let entry = entry_of(alloc, row.0, row.1)?;
-    let (numbers, share) = handed_out(append_and_share(alloc, book, front, entry));
+    let (numbers, share) = handed_out(book, append_and_share(alloc, book, front, entry));
     let agreed = share.map(|share| agree(front, &share));
     Ok((numbers, front.len(), agreed))
 }
@@ -353,13 +367,7 @@ fn go_on<B: BookName>(
         entry_of(alloc, [prev + 100, prev, prev], &ids)?,
     ) {
         Ok(longer) => Ok(longer),
-        Err(
-            Refused {
-                why: Refusal::Taken,
-                back: Some(longer),
-            },
-        ) => Ok(longer),
-        Err(refused) => Err(refused.why),
+        Err(refused) => front_found(book, refused.back).ok_or(refused.why),
     }
 }
 

@@ -8,12 +8,13 @@ use self::cut_snapshot::CutSnapshot;
 use self::steps::{Asked, Change, Text};
 use crate::asserting::same;
 use bytes::Bytes;
-use fdb_client::{ConflictSet, Finished, PlainSnapshot, Snapshot, Txn};
+use fdb_client::{ConflictSet, Finished, Op, PlainSnapshot, Reply, Snapshot, Transcript, Txn};
 use fdb_keys::{Items, Key, KeyRange, Refusal, Refused};
 use fdb_making::{are_ranges, ask, coded, filled, made_of, text_of};
 use fdb_mutations::{Mutation, PlainMap};
 use fdb_txn::{Sealed, TxnId};
 use std::alloc::Global;
+use std::slice;
 
 fn begin(alloc: Global) -> Txn {
     let id = TxnId {
@@ -265,6 +266,18 @@ fn finish(txn: Txn, writes: &[(Text, Text)]) -> Ended {
     let found = told(&finished, writes);
     drop(finished);
     found
+}
+
+// What it asks to commit, or the code of the refusal.
+type Requested = Result<(bool, usize, bool), u32>;
+
+// What a transaction that ends so asks to commit: nothing where it is read-only.
+fn requested_by(ended: Ended) -> Requested {
+    match ended {
+        Ok(Some(asked)) => Ok(asked),
+        Ok(None) => Ok((true, 0, false)),
+        Err((code, _ops)) => Err(code),
+    }
 }
 
 // What a new transaction is asked over the map in which a, b and c are 1, 2 and 3, and how it ends when it is finished
@@ -606,17 +619,26 @@ static CASES: [Case; 21] = [
     },
 ];
 
-// The first wrong line, and how the transaction ends.
-fn played(alloc: Global, map: &PlainMap, case: Case) -> (Option<(usize, Answer)>, Ended) {
-    let base = CutSnapshot {
+// What is read of the map.
+fn base_of(map: &PlainMap, fault: Option<Refusal>) -> CutSnapshot<'_> {
+    CutSnapshot {
         version: 0,
         map,
         cut: 0,
-        fault: case.fault,
-    };
+        fault,
+    }
+}
+
+// The first wrong line, what the transaction asks to commit then, and how it ends.
+fn played(
+    alloc: Global,
+    map: &PlainMap,
+    case: Case,
+) -> (Option<(usize, Answer)>, Requested, Ended) {
     let mut txn = begin(alloc);
-    let wrong = first_wrong(&mut txn, base, alloc, case.lines);
-    (wrong, finish(txn, case.writes))
+    let wrong = first_wrong(&mut txn, base_of(map, case.fault), alloc, case.lines);
+    let requested = ask(txn.request(), |sealed| asks_for(sealed, case.writes));
+    (wrong, requested, finish(txn, case.writes))
 }
 
 #[test]
@@ -624,8 +646,60 @@ fn transactions_read_and_write_what_their_steps_say(rt: HostRuntime) {
     let alloc = rt.alloc();
     for case in CASES.as_slice() {
         let found = ask(filled(alloc), |map| played(alloc, map, *case));
-        same(&rt, (case.what, found), (case.what, Ok((None, case.ended))));
+        let wanted = (None, requested_by(case.ended), case.ended);
+        same(&rt, (case.what, found), (case.what, Ok(wanted)));
     }
+}
+
+// Whether these are a set of a to 1 and an ordinary read of a.
+fn are_set_and_get(ops: &[(Op, Reply)]) -> bool {
+    match ops {
+        [
+            (Op::Write(mutation), _done),
+            (Op::Get { key, snapshot }, _value),
+        ] => {
+            sets_a_to_1(slice::from_ref(mutation)) && key.bytes() == b"a".as_slice() && !*snapshot
+        }
+        _ => false,
+    }
+}
+
+// The session and the number of the id, the read version, and whether the operations are a set of a to 1 and a read
+// of a.
+type Parts = (u32, u64, u64, bool);
+
+fn parts_of(transcript: &Transcript) -> Parts {
+    (
+        transcript.id.session,
+        transcript.id.number,
+        transcript.read_version,
+        are_set_and_get(transcript.ops.as_slice()),
+    )
+}
+
+// The first wrong line, and the parts of the transcript that the transaction leaves behind.
+fn left_behind(
+    alloc: Global,
+    map: &PlainMap,
+    lines: &[(Line, Answer)],
+) -> (Option<(usize, Answer)>, Parts) {
+    let mut txn = begin(alloc);
+    let wrong = first_wrong(&mut txn, base_of(map, FUTURE), alloc, lines);
+    let transcript = txn.into_transcript();
+    let parts = parts_of(&transcript);
+    drop(transcript);
+    (wrong, parts)
+}
+
+#[test]
+fn transcripts_keep_what_a_transaction_did(rt: HostRuntime) {
+    let alloc = rt.alloc();
+    let lines = &[
+        (Line::Write(Change::Set(b"a", 1)), DONE),
+        (Line::Get(b"a", ORDINARY), Ok(Some(1))),
+    ];
+    let found = ask(filled(alloc), |map| left_behind(alloc, map, lines));
+    same(&rt, found, Ok((None, (3, 7, 40, true))));
 }
 
 // The page of the keys from a to c, which has two pairs: how many pairs, the first value, and whether there is more.

@@ -11,6 +11,11 @@ use std::alloc::Global;
 
 type Text = &'static [u8];
 
+// How many acts there are, and for how many versions a mark stays.
+const ACTS: u64 = 10_000;
+
+const MARKS_STAY: u64 = 8;
+
 // The keys of the first range are marked with 100, and then those of the second one with 200.
 fn marked(alloc: Global, first: &KeyRange, second: &KeyRange) -> Result<LastCommit, Refusal>
     ensures { IfOk result (λ last. (x : Point) → version_at last x ≤ 200) }
@@ -104,4 +109,44 @@ fn equal_neighbours_are_one_piece_and_expired_ones_are_none(rt: HostRuntime) {
         |range| pieces_on_the_way(alloc, range),
     );
     same(&rt, found, Ok(([2, 1, 1, 0], true)));
+}
+
+// The range of the key that stands for the number.
+fn key_range(alloc: Global, number: u16) -> Result<KeyRange, Refusal> {
+    let [high, low] = number.to_be_bytes();
+    KeyRange::new(alloc, &[high, low], &[high, low, 0])
+}
+
+// One more key is marked with the version, and what is older than marks stay is forgotten.
+fn mark_and_expire(last: &mut LastCommit, key: &KeyRange, version: u64) -> Result<(), Refusal>
+    requires { (x : Point) → version_at last.old x ≤ version }
+    ensures { (x : Point) → version_at last.new x ≤ version }
+{
+    last.mark(key, version)?;
+    last.expire(version.saturating_sub(MARKS_STAY));
+    Ok(())
+}
+
+// Whether no more than twice the breakpoints of the pieces are kept, and a few. A piece that meets no other one has
+// two.
+fn is_small(last: &LastCommit) -> bool {
+    last.breakpoints() <= last.pieces().saturating_mul(4).saturating_add(16)
+}
+
+// The first version at which too many breakpoints are kept, while one key after another is marked.
+fn first_large(alloc: Global) -> Result<Option<u64>, Refusal> {
+    let mut last = LastCommit::new(alloc);
+    for version in 0..ACTS {
+        let key = key_range(alloc, version as u16)?;
+        mark_and_expire(&mut last, &key, version)?;
+        if !is_small(&last) {
+            return Ok(Some(version));
+        }
+    }
+    Ok(None)
+}
+
+#[test]
+fn breakpoints_of_expired_marks_go(rt: HostRuntime) {
+    same(&rt, first_large(rt.alloc()), Ok(None));
 }

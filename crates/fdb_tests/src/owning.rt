@@ -1,5 +1,5 @@
 // Owners with known answers: of two resolvers, of which the second owns the keys from m on at first.
-ghost use Rattle.std.specs.Prelude.{◌≡◌, ◌<◌, ◌≤◌, All, IfOk};
+ghost use Rattle.std.specs.Prelude.{◌≡◌, ◌<◌, ◌≤◌, ◌^◌, All, IfOk};
 ghost use Rattle.fdb_owners.specs.Ownership.{resolvers_of};
 
 use crate::asserting::same;
@@ -462,4 +462,57 @@ fn many_moves_of_one_version_are_learnt_at_once(rt: HostRuntime) {
         });
         same(&rt, found, Ok((Ok(true), Ok(true))));
     }
+}
+
+// How many acts there are, for how many versions a key stays with the second resolver, and for how many its owners are
+// known.
+const ACTS: u64 = 10_000;
+
+const KEYS_STAY: u64 = 8;
+
+const KNOWN: u64 = 8;
+
+// The breakpoints that the owners need then: each of the last 16 keys went over at another version, or came back at one
+// that is known; behind them is one more, and one is the split.
+const NEEDED: usize = 18;
+
+// One more key goes over, and the one before so many comes back.
+fn passing_moves(alloc: Global, key: u32) -> Result<Items<Move>, Refusal>
+    requires { key < 2 ^ 31 }
+    ensures { IfOk result (λ moves. All (λ move. move.to < 2) moves) }
+{
+    let back = key.saturating_sub(KEYS_STAY as u32);
+    let mut moves = Items::new(alloc);
+    push_move(&mut moves, alloc, back, back + 1, 0)?;
+    push_move(&mut moves, alloc, key, key + 1, 1)?;
+    Ok(moves)
+}
+
+// The owners learn that at the version, and forget what is older than is known.
+fn learn_and_expire(owners: &mut Owners, version: u64, moves: &[Move]) -> Result<(), Refusal>
+    requires resolvers { resolvers_of owners.old ≡ 2 }
+    requires targets { All (λ move. move.to < 2) moves.now }
+    ensures { resolvers_of owners.new ≡ 2 }
+{
+    owners.learn(version, moves)?;
+    owners.expire(version.saturating_sub(KNOWN));
+    Ok(())
+}
+
+// The first version at which more than twice the breakpoints that are needed are kept, and a few.
+fn first_large(alloc: Global) -> Result<Option<u64>, Refusal> {
+    let mut owners = two_resolvers(alloc)?;
+    for version in 1..=ACTS {
+        let moves = passing_moves(alloc, version as u32)?;
+        learn_and_expire(&mut owners, version, moves.as_slice())?;
+        if owners.breakpoints() > 2 * NEEDED + 16 {
+            return Ok(Some(version));
+        }
+    }
+    Ok(None)
+}
+
+#[test]
+fn breakpoints_of_expired_moves_go(rt: HostRuntime) {
+    same(&rt, first_large(rt.alloc()), Ok(None));
 }

@@ -3,7 +3,7 @@ ghost use Rattle.std.specs.Prelude.{◌≡◌, All, None, IfOk};
 ghost use Rattle.fdb_mutations.specs.Mutations.{mutation_fault};
 
 use crate::asserting::same;
-use fdb_keys::{Items, Key, KeyRange, RangeSet, Refusal};
+use fdb_keys::{Items, Key, KeyRange, RangeSet, Refusal, SharedList};
 use fdb_making::{
     are_ranges, ask, ask_both, both, code_of, equals_copy, has_bounds, keys_of, legal_set, made_of,
     one_set, push, seal, set_of, shared, text_of,
@@ -12,7 +12,7 @@ use fdb_mutations::Mutation;
 use fdb_txn::{
     Batch, Entry, Move, PLACE_LIMIT, Room, Sealed, Splits, Spot, TxnId, check_size, check_turn,
 };
-use std::alloc::Global;
+use std::alloc::{AllocError, Global};
 
 // The version of an entry and the resolver to which its move goes, and whether it equals that of version 50 whose move
 // goes to resolver 1.
@@ -122,11 +122,11 @@ fn two_places(alloc: Global) -> Result<Batch, Refusal> {
     Ok(Batch::new(shared(alloc, places)?))
 }
 
-fn one_move(alloc: Global, to: u32) -> Result<Items<Move>, Refusal> {
+fn one_move(alloc: Global, to: u32) -> Result<SharedList<Move>, Refusal> {
     let range = KeyRange::new(alloc, b"m", b"n")?;
     let mut moves = Items::new(alloc);
     push(&mut moves, Move { range, to })?;
-    Ok(moves)
+    shared(alloc, moves)
 }
 
 // An entry of two places, with a move to the resolver.
@@ -139,6 +139,14 @@ fn entry(alloc: Global, version: u64, to: u32) -> Result<Entry, Refusal> {
         moves,
         batch,
     })
+}
+
+// Whether the copies are those of the entry's moves.
+fn are_moves_of(entry: &Entry, copies: Result<Items<Move>, AllocError>) -> bool {
+    match copies {
+        Ok(copies) => copies.as_slice() == entry.moves.as_slice(),
+        Err(_error) => false,
+    }
 }
 
 fn sets_a_to_one(mutations: &[Mutation]) -> bool {
@@ -238,7 +246,7 @@ fn entries_are_equal_by_versions_and_moves(rt: HostRuntime) {
         let moves = Move::copies(alloc, entry.moves.as_slice());
         [
             equals_copy(entry, entry.clone()),
-            equals_copy(&entry.moves, moves),
+            are_moves_of(entry, moves),
         ]
     });
     same(&rt, copies, Ok([true; 2]));

@@ -1,21 +1,13 @@
 -- A clone of an entry is that entry, since a clone of each of its parts is that part.
-use Rattle.std.proofs.Common.{◌≡◌, sym, ◌∙◌, rules}
-use Rattle.std.proofs.lemmas.List.Elements.{same_from_all_zip}
-use Rattle.fdb_keys.specs.declared.key_range.KeyRange.{KeyRange}
+use Rattle.std.proofs.Common.{◌≡◌, sym, ◌∙◌}
 use Rattle.fdb_keys.specs.declared.range_set.RangeSet.{RangeSet}
-use Rattle.fdb_keys.specs.contracts.key_range.KeyRangeClone.TheImpl as of_ranges
 use Rattle.fdb_keys.specs.contracts.range_set.RangeSetClone.TheImpl as of_range_sets
 use Rattle.fdb_txn.specs.declared.sealed.Sealed.{Sealed}
 use Rattle.fdb_txn.specs.declared.batch.Batch.{Batch}
-use Rattle.fdb_txn.specs.declared.entry.Move.{Move}
 use Rattle.fdb_txn.specs.declared.entry.Entry.{Entry}
 use Rattle.fdb_txn.specs.contracts.sealed.SealedClone.TheImpl as of_sealed
 use Rattle.fdb_txn.specs.contracts.batch.BatchClone.TheImpl as of_batches
-use Rattle.fdb_txn.specs.contracts.entry.MoveClone.TheImpl as of_moves
 use Rattle.fdb_txn.specs.contracts.entry.EntryClone.TheImpl as of_entries
-
-same_range : (a b : KeyRange) → (of_ranges.ghosts).is_clone a b → b ≡ a
-same_range a b copied = search rules
 
 pub same_set : (a b : RangeSet) → (of_range_sets.ghosts).is_clone a b → b ≡ a
 same_set a b copied = sym copied.3 ∙ copied.4 ∙ copied.2
@@ -34,12 +26,7 @@ same_batch : (a b : Batch) → (of_batches.ghosts).is_clone a b → b ≡ a
 same_batch a b copied =
     sym copied.3 ∙ copied.4 ∙ copied.2
 
-same_move : (a b : Move) → (of_moves.ghosts).is_clone a b → b ≡ a
-same_move a b copied =
-    let range = same_range a.range b.range copied.0 in λ i. record { range = range i; to = copied.1 i }
-
 pub same_entry : (a b : Entry) → (of_entries.ghosts).is_clone a b → b ≡ a
 same_entry a b copied =
-    let moves = same_from_all_zip (of_moves.ghosts).is_clone a.moves b.moves copied.1.1.0 same_move in
     let batch = same_batch a.batch b.batch copied.1.1.1 in
-    λ i. record { version = copied.0 i; prev = copied.1.0 i; moves = moves i; batch = batch i }
+    λ i. record { version = copied.0 i; prev = copied.1.0 i; moves = copied.1.1.0 i; batch = batch i }

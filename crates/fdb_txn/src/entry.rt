@@ -1,9 +1,9 @@
 use crate::batch::Batch;
-use fdb_keys::{Items, KeyRange};
+use fdb_keys::{Items, KeyRange, SharedList};
 use std::alloc::{AllocError, Global};
 
 /// A range of keys goes over to another resolver.
-#[derive(Clone, Drop, PartialEq, Eq)]
+#[derive(Drop, PartialEq, Eq)]
 pub struct Move {
     /// The keys that go over.
     pub range: KeyRange,
@@ -35,8 +35,8 @@ pub struct Entry {
     pub version: u64,
     /// The version of the entry before it, 0 where it is the first.
     pub prev: u64,
-    /// The moves that take effect at the entry's version, the earliest one first.
-    pub moves: Items<Move>,
+    /// The moves that take effect at the entry's version, the earliest one first. Copies of the entry share them.
+    pub moves: SharedList<Move>,
     /// The transactions, at places counted from 0.
     pub batch: Batch,
 }

@@ -6,6 +6,7 @@ ghost use Rattle.fdb_txn.specs.Equality.{txn_id_eq, spot_eq, move_eq, entry_eq, 
 ghost use Rattle.fdb_txn.specs.declared.limits.TheConstants.{PLACE_LIMIT, RESOLVER_LIMIT, WINDOW};
 ghost use Rattle.fdb_txn.specs.Limits.{place_limit, resolver_limit};
 ghost use Rattle.fdb_txn.specs.rules.Owners.{window};
+ghost use Rattle.fdb_txn.specs.laws.Examples.{LimitNumbers};
 ghost use Rattle.fdb_txn.specs.laws.Examples.{Sizes, OneBatch, WriteSkew, FalseConflict, FormerOwner, ThereAndBack};
 ghost use Rattle.fdb_txn.specs.laws.Examples.{EqualIsNotNewer, Window, OldReading, TwoMoves, Spans, AtBounds};
 ghost use Rattle.fdb_txn.specs.laws.Examples.{ShardMessages, Entries, Books};
@@ -179,4 +180,9 @@ pub fn worked_examples()
     ensures shard_messages { ShardMessages }
     ensures entries { Entries }
     ensures books { Books }
+{}
+
+/// The number of each limit.
+pub fn worked_limits()
+    ensures { LimitNumbers }
 {}

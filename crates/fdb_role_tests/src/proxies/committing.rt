@@ -8,7 +8,8 @@ use crate::asserting::same;
 use fdb_keys::{Items, RangeSet, Refusal};
 use fdb_log::{LogAck, LogMsg, Tagged};
 use fdb_making::{
-    are_ranges, ask_mut, is_done, keys_of, numbers_of, one_key, one_set, placed, seal, split_config,
+    are_ranges, ask_mut, is_done, keys_of, numbers_of, one_key, one_set, placed, seal, shared,
+    split_config,
 };
 use fdb_mutations::Mutation;
 use fdb_proxy::{CommitCore, Outcome};
@@ -214,17 +215,19 @@ fn seal_one(core: &mut CommitCore) -> Result<(), Refusal>
 }
 
 /// What is learnt of the first entry, at version 100.
-pub fn ticket(alloc: Global) -> Ticket
-    ensures { (p : CommitProxy) → AllByRecursion (λ (t : Transaction). t.read < 100) p.batch → IsTicketFor p result }
+pub fn ticket(alloc: Global) -> Result<Ticket, Refusal>
+    ensures { IfOk result (λ ticket. (p : CommitProxy)
+        → AllByRecursion (λ (t : Transaction). t.read < 100) p.batch → IsTicketFor p ticket) }
 {
-    Ticket {
+    let pending = shared(alloc, Items::new(alloc))?;
+    Ok(Ticket {
         proxy: 0,
         index: 0,
         version: 100,
         prev: 0,
         moves: Items::new(alloc),
-        pending: Items::new(alloc),
-    }
+        pending,
+    })
 }
 
 // The transaction of session 4 alone is the batch.
@@ -241,16 +244,18 @@ fn seal_four(core: &mut CommitCore, alloc: Global) -> Result<(), Refusal>
 fn learn_one(core: &mut CommitCore, alloc: Global) -> Result<(), Refusal>
     requires { core.old.proxy.waiting ≡ [] }
 {
+    let ticket = ticket(alloc)?;
     seal_four(core, alloc)?;
-    core.learn(&ticket(alloc))
+    core.learn(&ticket)
 }
 
 // Whether the parts are those that are asked for then.
 fn learns_with_parts(core: &mut CommitCore, alloc: Global) -> Result<bool, Refusal>
     requires { core.old.proxy.waiting ≡ [] }
 {
+    let ticket = ticket(alloc)?;
     seal_four(core, alloc)?;
-    are_write_and_read(core.learn_with_parts(&ticket(alloc)))
+    are_write_and_read(core.learn_with_parts(&ticket))
 }
 
 /// A proxy whose batch, of the transaction of session 4 alone, waits for its ticket.

@@ -3,9 +3,10 @@ ghost use Rattle.std.specs.Prelude.{◌≡◌, ◌⊎◌, max, true, false, leng
 ghost use Rattle.fdb_keys.specs.declared.refusal.Refusal.TheVariants.{BookFull, CommitUnknownResult};
 ghost use Rattle.fdb_book.specs.Fronts.{IsPrefix};
 ghost use Rattle.fdb_roles.specs.Spots.{spot_version};
-ghost use Rattle.fdb_client.specs.Programs.{is_read_only};
-ghost use Rattle.fdb_sections.specs.Commits.{CommitEnds, IsByFull, IsByOutcome, IsByReason, IsToldSo};
-ghost use Rattle.fdb_sections.specs.Commits.{is_handed_back, is_shown, is_untaken, plain_reason};
+ghost use Rattle.fdb_client.specs.Programs.{commit_request_of, is_read_only};
+ghost use Rattle.fdb_sections.specs.Absent.{IsNowhere};
+ghost use Rattle.fdb_sections.specs.Commits.{CommitEnds, IsByFull, IsByOutcome, IsByReason, IsToldSo, IsUnlessShown};
+ghost use Rattle.fdb_sections.specs.Commits.{is_handed_back, is_shown, is_untaken, is_without_place, plain_reason};
 ghost use Rattle.fdb_sections.specs.Sessions.{IsOpenAt};
 
 use crate::known_front::KnownFront;
@@ -14,6 +15,7 @@ use crate::messages::reply::CommitReply;
 use crate::name::ClusterName;
 use crate::receipt::Receipt;
 use crate::session_state::SessionState;
+use crate::session_state::absent::shows;
 use crate::session_state::submitted::Submitted;
 use fdb_client::Transcript;
 use fdb_keys::{Refusal, Refused};
@@ -25,8 +27,23 @@ fn is_untaken(why: Refusal) -> bool
     matches!(why, Refusal::NoMemory)
 }
 
-// What a session is told that is refused with no front to show why. A reason that a front would show, and what no commit
-// is refused for, leave open what became of the transaction.
+// Whether a refusal says that the transaction has no place in the book.
+fn is_without_place(why: Refusal) -> bool
+    ensures { result ≡ is_without_place why }
+{
+    matches!(
+        why,
+        Refusal::Failed
+            | Refusal::Exhausted
+            | Refusal::BookFull
+            | Refusal::Repeated(_)
+            | Refusal::Chain
+            | Refusal::Closed
+    )
+}
+
+// What a session is told that is refused with no front to show why. A reason that a front would show, and what no
+// commit is refused for, leave open what became of the transaction.
 fn plain_reason(why: Refusal) -> Refusal
     ensures reason { result ≡ plain_reason why }
     ensures plain { is_shown result ≡ false }
@@ -55,10 +72,24 @@ impl<B: ClusterName> SessionState<B> {
         receipt
     }
 
+    // Why the transaction has no receipt, which isn't known where it is to have no place and the front shows it.
+    fn unless_shown(&self, submitted: &Submitted, why: Refusal) -> Refusal
+        ensures told { IsUnlessShown self.now.front submitted.now.transaction why result }
+        ensures absent { is_without_place result ≡ true
+            → IsNowhere (commit_request_of submitted.now.transaction) self.now.front }
+    {
+        if is_without_place(why) && shows(&self.front, submitted) {
+            return Refusal::CommitUnknownResult;
+        }
+        why
+    }
+
     // Sees the front of a book that is full, and says why the transaction has no receipt.
-    fn see_full(&mut self, book: u32, front: &KnownFront<B>) -> Refusal
+    fn see_full(&mut self, book: u32, submitted: &Submitted, front: &KnownFront<B>) -> Refusal
         requires { book ≡ B.config.book }
-        ensures told { IsByFull B.config self.old front.now result self.new }
+        ensures told { IsByFull B.config self.old submitted.now.transaction front.now result self.new }
+        ensures absent { is_without_place result ≡ true
+            → IsNowhere (commit_request_of submitted.now.transaction) self.new.front }
         ensures why { (result ≡ BookFull) ⊎ (result ≡ CommitUnknownResult) }
         ensures listed { is_handed_back result ≡ true }
         ensures full { result ≡ BookFull → length self.new.front ≡ B.config.book }
@@ -66,7 +97,9 @@ impl<B: ClusterName> SessionState<B> {
         ensures left { self.new ≡ record self.old { front = self.new.front } }
     {
         match self.see(front) {
-            Ok(()) if self.front.len() == book as usize => Refusal::BookFull,
+            Ok(()) if self.front.len() == book as usize => {
+                self.unless_shown(submitted, Refusal::BookFull)
+            }
             _ => Refusal::CommitUnknownResult,
         }
     }
@@ -93,8 +126,8 @@ impl<B: ClusterName> SessionState<B> {
         }
     }
 
-    // The request is refused with no front to show why: the transaction is open again where the request was never taken,
-    // and ends else.
+    // The request is refused with no front to show why: the transaction is open again where the request was never
+    // taken, and ends else.
     fn end_refused(
         &mut self,
         submitted: Submitted,
@@ -111,7 +144,7 @@ impl<B: ClusterName> SessionState<B> {
             return Err(Refused { why, back: None });
         }
         Err(Refused {
-            why: plain_reason(why),
+            why: self.unless_shown(&submitted, plain_reason(why)),
             back: Some(submitted.into_transcript()),
         })
     }
@@ -135,7 +168,7 @@ impl<B: ClusterName> SessionState<B> {
         match told {
             CommitReply::Outcome(message) => self.settle_or_back(submitted, &message),
             CommitReply::Full(front) => Err(Refused {
-                why: self.see_full(book, &front),
+                why: self.see_full(book, &submitted, &front),
                 back: Some(submitted.into_transcript()),
             }),
             CommitReply::Refused(why) => self.end_refused(submitted, why),

@@ -7,8 +7,8 @@ use fdb_client::{Transcript, Txn};
 use fdb_keys::{Refusal, Refused};
 use fdb_txn::Sealed;
 
-/// What a session submitted: the transaction as it was open, and the request that its proxy is sent, with which what the
-/// proxy tells is compared.
+/// What a session submitted: the transaction as it was open, and the request that its proxy is sent, with which what
+/// the proxy tells is compared.
 #[derive(Drop)]
 pub(crate) struct Submitted {
     /// The transaction.

@@ -235,10 +235,13 @@ fn counts_in(line: &[u8]) -> [u64; 6] {
     COUNTS.map(|name| number_in(line, name))
 }
 
+// Seeds in whose plays somebody is acknowledged.
+const WITH_RECEIPTS: [u64; 8] = [0, 1, 2, 3, 4, 6, 7, 8];
+
 #[test]
 fn each_count_is_printed_of_some_seeds(rt: HostRuntime) -> Result<(), Fail> {
     let mut had: [bool; 6] = [false; 6];
-    for seed in 0..8 {
+    for seed in WITH_RECEIPTS {
         let (status, line) = printed_by(&rt, seed)?;
         let counts = counts_in(line.as_slice());
         same(

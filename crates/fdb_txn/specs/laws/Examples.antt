@@ -8,6 +8,8 @@ use Rattle.fdb_mutations.specs.declared.mutation.Mutation.{Mutation}
 use Rattle.fdb_mutations.specs.declared.mutation.Mutation.TheVariants.{Set}
 use Rattle.fdb_mutations.specs.Maps.{Map}
 use Rattle.fdb_mutations.specs.Mutations.{effects}
+use Rattle.fdb_txn.specs.Limits.{size_limit, place_limit, book_limit, greatest_advance, version_limit, ticket_limit}
+use Rattle.fdb_txn.specs.Limits.{move_limit, proxy_limit, resolver_limit, log_limit, tag_limit, shard_limit}
 use Rattle.fdb_txn.specs.declared.entry.Move.{Move}
 use Rattle.fdb_txn.specs.declared.entry.Entry.{Entry}
 use Rattle.fdb_txn.specs.declared.tag_msg.TagMsg.{TagMsg}
@@ -15,7 +17,7 @@ use Rattle.fdb_txn.specs.book.Transactions.{Transaction}
 use Rattle.fdb_txn.specs.book.Size.{size_of}
 use Rattle.fdb_txn.specs.book.Book.{Place, seen_of}
 use Rattle.fdb_txn.specs.book.History.{AreEntries, IsBook}
-use Rattle.fdb_txn.specs.rules.Owners.{is_asked}
+use Rattle.fdb_txn.specs.rules.Owners.{is_asked, window}
 use Rattle.fdb_txn.specs.rules.Admission.{is_fresh, admits, committed}
 use Rattle.fdb_txn.specs.book.Places.{place_at}
 use Rattle.fdb_txn.specs.rules.SerialMap.{serial_map_at}
@@ -352,6 +354,23 @@ Books =
     × (IsBook 2 (entry_of 1 0 [] (reads_and_sets 0 0 [] [] ∷ reads_and_sets 0 0 [] [] ∷ []) ∷ []) → ⊥)
     × (IsBook 2
     (entry_of 1 0 [] (reads_and_sets 0 0 [] [] ∷ []) ∷ entry_of 2 1 [] (reads_and_sets 0 1 [] [] ∷ []) ∷ []) → ⊥)
+
+-- the number of each limit
+abbrev pub LimitNumbers : Type 0
+LimitNumbers =
+    (size_limit ≡ 10000000)
+    × (place_limit ≡ 4096)
+    × (book_limit ≡ 1048576)
+    × (window ≡ 5000000)
+    × (greatest_advance ≡ 5000000)
+    × (version_limit ≡ 4611686018427387904)
+    × (ticket_limit ≡ 4294967296)
+    × (move_limit ≡ 65536)
+    × (proxy_limit ≡ 16)
+    × (resolver_limit ≡ 64)
+    × (log_limit ≡ 16)
+    × (tag_limit ≡ 64)
+    × (shard_limit ≡ 64)
 
 -- How many bytes transactions have: of both bounds of what they read, of both bounds of what they write, and of their
 -- mutations.

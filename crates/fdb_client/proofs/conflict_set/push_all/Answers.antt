@@ -14,7 +14,8 @@ loop-range-init c =
 pub loop-range-preserved : goal.loop-range-preserved
 loop-range-preserved c =
     let copy : c.in_ok-clone.field-0 ≡ c.in-Some.range.now = search rules in
-    let steps : iter_rest c.loop-range.range-iterator ≡ c.in-Some.range.now ∷ iter_rest c.next.new.self = search rules in
+    let steps : iter_rest c.loop-range.range-iterator ≡ c.in-Some.range.now ∷ iter_rest c.next.new.self =
+    search rules in
     rw (c.in_ok-push.ensures.ok, copy)
     (put_down-more c.args.list.now c.args.ranges.now c.loop-range.list _ c.in-Some.range.now _ c.loop-range.invariant
     steps)

@@ -50,3 +50,53 @@ returns-clause-ranges c = (
   refl,
   refl,
 )
+
+pub returns-clause-names : goal.returns-clause-names
+returns-clause-names c = (
+  refl,
+  refl,
+  refl,
+  refl,
+  refl,
+  refl,
+  refl,
+  refl,
+  refl,
+  refl,
+  refl,
+  refl,
+  refl,
+  refl,
+  refl,
+  refl,
+  refl,
+  refl,
+  refl,
+  refl,
+  refl,
+  refl,
+  refl,
+  refl,
+  refl,
+)
+
+pub returns-clause-limits : goal.returns-clause-limits
+returns-clause-limits c = (
+  refl,
+  refl,
+)
+
+pub returns-clause-lengths : goal.returns-clause-lengths
+unfolding point_lt
+returns-clause-lengths c = (
+  λ text bytes. rw bytes refl,
+  λ text bytes. rw bytes refl,
+  λ text bytes. rw bytes refl,
+  λ text bytes. rw bytes refl,
+  λ text bytes. rw bytes refl,
+  λ text bytes. rw bytes refl,
+  λ text bytes. rw bytes refl,
+  λ text bytes. rw bytes refl,
+  λ text bytes. rw bytes refl,
+  λ text bytes. rw bytes refl,
+)

@@ -1,4 +1,4 @@
-use Rattle.std.proofs.Common.{◌≡◌, ◌∙◌, sym, ap, [], ◌==◌, ℕ, length}
+use Rattle.std.proofs.Common.{◌≡◌, ◌∙◌, sym, ap, [], ◌==◌, ℕ, length, rules}
 use Rattle.std.proofs.lemmas.Bool.{eqb-true}
 use Rattle.std.proofs.lemmas.List.{nil_from_length}
 use Rattle.fdb_owners.specs.Parts.{changes_within}
@@ -14,3 +14,9 @@ returns-then-is_empty-clause-alone c i =
     (eqb-true (length c.changes_within.result.now) 0 (sym c.is_empty.ensures ∙ c.if-is_empty.true)) in
     owned-throughout c.args.history.now i span.since span.through none
     ∙ ap (λ (owner : ℕ). owner == i) (sym c.owner_at.ensures)
+
+pub returns-clause-none : goal.returns-clause-none
+returns-clause-none c none =
+    let within : c.changes_within.result.now ≡ [] =
+    c.changes_within.ensures ∙ ap (changes_within c.args.span.since c.args.span.through) c.as_slice.ensures ∙ none in
+    search rules

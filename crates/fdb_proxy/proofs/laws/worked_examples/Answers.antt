@@ -25,6 +25,17 @@ returns-clause-configs c = (
   refl,
 )
 
+pub returns-clause-numbers : goal.returns-clause-numbers
+returns-clause-numbers c = (
+  refl,
+  refl,
+  refl,
+  refl,
+  refl,
+  refl,
+  refl,
+)
+
 pub returns-clause-grants : goal.returns-clause-grants
 returns-clause-grants c = λ client. (
   refl,

@@ -7,6 +7,9 @@ returns-clause-submits c = (
   refl,
   refl,
   refl,
+  refl,
+  refl,
+  refl,
 )
 
 pub returns-clause-seals : goal.returns-clause-seals
@@ -50,6 +53,11 @@ returns-clause-verdicts c = (
   refl,
   refl,
   refl,
+  refl,
+  refl,
+  refl,
+  refl,
+  refl,
 )
 
 pub returns-clause-decisions : goal.returns-clause-decisions
@@ -68,6 +76,14 @@ returns-clause-decisions c = (
 
 pub returns-clause-logging : goal.returns-clause-logging
 returns-clause-logging c = (
+  refl,
+  refl,
+  refl,
+  refl,
+  refl,
+  refl,
+  refl,
+  refl,
   refl,
   refl,
   refl,

@@ -12,6 +12,7 @@ use Rattle.fdb_txn.specs.rules.Admission.{committed, is_fresh}
 use Rattle.fdb_client.specs.Programs.{commit_request_of}
 use Rattle.fdb_client.specs.declared.program.Transcript.{Transcript}
 use Rattle.fdb_roles.specs.SmallBooks.{reads_and_sets, two_in_one_entry}
+use Rattle.fdb_sections.specs.Absent.{IsNowhere}
 use Rattle.fdb_sections.specs.Examples.{far, opened}
 use Rattle.fdb_sections.specs.Sessions.{Session}
 use Rattle.fdb_sections.proofs.laws.worked_examples.Goals as goal
@@ -110,15 +111,45 @@ returns-clause-turned_down c = (
 pub returns-clause-reasons : goal.returns-clause-reasons
 returns-clause-reasons c = (refl, refl, refl, refl, refl, refl, refl, refl, refl, refl)
 
+-- session 3's transaction isn't in the entry of sessions 0 and 1, and that of session 1 is
+opened-nowhere : IsNowhere (commit_request_of (opened 100)) two_in_one_entry
+opened-nowhere = (
+  (
+    λ same. let wrong : 0 ≡ 3 = ap (λ (t : Transaction). t.id.session) same in omega (arith, wrong),
+    (λ same. let wrong : 1 ≡ 3 = ap (λ (t : Transaction). t.id.session) same in omega (arith, wrong), tt),
+  ),
+  tt,
+)
+
+second-somewhere : IsNowhere (commit_request_of (reads_and_sets 1 None)) two_in_one_entry → ⊥
+second-somewhere nowhere = nowhere.0.1.0 refl
+
+pub returns-clause-places : goal.returns-clause-places
+returns-clause-places c = (
+  (λ told. ⊎_elim
+      (λ seen. ⊎_elim (λ so. second-somewhere (so.1 refl)) (λ shown. cc (shown.0)) seen.1)
+      (λ unknown. cc (unknown.1))
+      told),
+  inl (refl, inr (refl, second-somewhere)),
+  (λ told. ⊎_elim
+      (λ seen. ⊎_elim (λ so. cc (so.0)) (λ shown. shown.1 opened-nowhere) seen.1)
+      (λ unknown. let wrong : 1 ≡ 0 = ap (λ (it : Session). length it.front) unknown.0 in omega (arith, wrong))
+      told),
+  (λ is. ⊎_elim (λ so. second-somewhere (so.1 refl)) (λ shown. cc (shown.0)) (is.1 refl).0),
+  (λ wrong. absurd cc, λ is. (inr (refl, second-somewhere), refl)),
+  (λ is. ⊎_elim (λ so. cc (so.0)) (λ shown. shown.1 opened-nowhere) (is.1 refl).0),
+  (λ wrong. absurd cc, λ is. (inl (refl, λ without. opened-nowhere), refl)),
+)
+
 pub returns-clause-full_books : goal.returns-clause-full_books
 returns-clause-full_books c = (
-  inl (refl, refl),
-  (λ told. ⊎_elim (λ seen. cc (seen.1)) (λ unknown. cc (unknown.1)) told),
+  inl (refl, inl (refl, λ is. opened-nowhere)),
+  (λ told. ⊎_elim (λ seen. ⊎_elim (λ so. cc (so.0)) (λ shown. cc (shown.0)) seen.1) (λ unknown. cc (unknown.1)) told),
   (λ told. ⊎_elim
       (λ seen. let wrong : 0 ≡ 1 = ap (λ (it : Session). length it.front) seen.0 in omega (arith, wrong))
       (λ unknown. cc (unknown.1))
       told),
-  (λ told. ⊎_elim (λ seen. cc (seen.1)) (λ unknown. cc (unknown.1)) told),
+  (λ told. ⊎_elim (λ seen. ⊎_elim (λ so. cc (so.0)) (λ shown. cc (shown.0)) seen.1) (λ unknown. cc (unknown.1)) told),
   ((λ same. absurd cc), (λ same. absurd cc), (λ same. refl)),
   (λ tells. let wrong : 1 ≡ 2 = tells.2 refl in omega (arith, wrong)),
 )
@@ -132,7 +163,7 @@ returns-clause-untaken c = (
   (λ is. let same : None ≡ Some (opened 100) = ap (λ (it : Session). it.current) (is.0 refl).1 in absurd cc),
   (λ is. let why : refusal.CommitUnknownResult ≡ refusal.NoMemory = ap (λ (it : Refused (Option Transcript)). it.why)
       (is.0 refl).0 in absurd cc),
-  (λ wrong. absurd cc, λ is. (refl, refl)),
-  (λ is. let why : refusal.NoMemory ≡ refusal.Failed = (is.1 refl).0 in absurd cc),
+  (λ wrong. absurd cc, λ is. (inl (refl, λ without. tt), refl)),
+  (λ is. ⊎_elim (λ so. cc (so.0)) (λ shown. cc (shown.0)) (is.1 refl).0),
   (λ is. let same : Some (opened 100) ≡ None = ap (λ (it : Session). it.current) (is.1 refl).1 in absurd cc),
 )

@@ -38,6 +38,10 @@ pub returns-clause-reports : goal.returns-clause-reports
 returns-clause-reports c = (
   refl,
   refl,
+  refl,
+  refl,
+  refl,
+  refl,
 )
 
 pub returns-clause-numbers : goal.returns-clause-numbers

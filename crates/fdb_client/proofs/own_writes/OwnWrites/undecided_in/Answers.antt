@@ -1,37 +1,28 @@
-use Rattle.std.proofs.Common.{◌≡◌, ◌∙◌, sym, ap, ap₂, subst, Bool, true, not, ◌&&◌, ◌||◌, List}
-use Rattle.std.specs.List.{AllByRecursion, list_any}
-use Rattle.fdb_keys.specs.Points.{Point, point_eq}
-use Rattle.fdb_keys.specs.Ranges.{Range, in_range, in_set}
-use Rattle.fdb_keys.specs.Texts.{is_key}
-use Rattle.fdb_keys.proofs.Exports.{in_outside}
+use Rattle.std.proofs.Common.{◌∙◌, sym, ap, refl, Bool, false, not, ◌&&◌, ◌||◌, List, []}
+use Rattle.std.proofs.lemmas.Bool.{and_parts, not-true}
+use Rattle.fdb_keys.specs.Insertion.{with_ranges}
+use Rattle.fdb_keys.specs.Ranges.{Range, in_range, in_set, is_apart}
+use Rattle.fdb_keys.proofs.Exports.{apart-with_ranges}
 use Rattle.fdb_client.specs.LeftAt.{left_at}
-use Rattle.fdb_client.specs.OwnWrites.{is_value, keys_between}
-use Rattle.fdb_client.proofs.ClearedLemmas.{legal-between, undecided-point}
-use Rattle.fdb_client.proofs.FaultLemmas.{same_fault}
+use Rattle.fdb_client.specs.OwnWrites.{is_value}
+use Rattle.fdb_client.proofs.UndecidedLemmas.{not_cleared}
 use Rattle.fdb_client.proofs.own_writes.OwnWrites.undecided_in.Goals as goal
 
-pub decided_among-requires : goal.decided_among-requires
-decided_among-requires c =
-    let own = c.args.self.now in
-    let range = c.args.range.now in
-    let listed : c.as_slice.result.now ≡ keys_between range own.keys.entries =
-    c.as_slice.ensures.value ∙ c.in_ok-keys.ensures in
-    subst (AllByRecursion (λ (key : Point). is_key key ≡ true)) (sym listed)
-    (legal-between range own.keys.entries c.requires.legal_keys)
+pub undecided_among-requires-clause-uncleared : goal.undecided_among-requires-clause-uncleared
+undecided_among-requires-clause-uncleared c = λ x there.
+    not-true _ (and_parts _ _ (sym (c.in_ok-uncleared.ensures.points x) ∙ there)).1
 
 pub returns-clause-answers : goal.returns-clause-answers
-returns-clause-answers c =
+returns-clause-answers c = λ x.
     let own = c.args.self.now in
-    let range = c.args.range.now in
-    let all = c.add_all.new.self in
-    let listed : c.as_slice.result.now ≡ keys_between range own.keys.entries =
-    c.as_slice.ensures.value ∙ c.in_ok-keys.ensures in
-    same_fault c.outside.result _ _ _ (λ undecided is x.
-    ap (λ (set : List Range). in_set set x) is
-    ∙ in_outside all range x
-    ∙ ap (λ (decides : Bool). in_range range x && not decides)
-    (c.in_ok-add_all.ensures.answers x
-    ∙ ap₂ (λ (gone entered : Bool). gone || entered) (c.in_ok-cleared_in.ensures x)
-    (c.in_ok-decided.ensures x
-    ∙ ap (λ (keys : List Point). list_any (point_eq x) keys && is_value (left_at own x)) listed))
-    ∙ undecided-point range own.keys.entries own.cleared x (c.requires.cleared x)) c.outside.ensures.answers
+    let value = is_value (left_at own x) in
+    c.in_ok-add_all.ensures.answers x
+    ∙ ap (λ (set : List Range). in_set c.in_ok-parts.parts.items x || in_set set x) c.new-undecided.ensures
+    ∙ ap (λ (found : Bool). found || false)
+    (c.in_ok-parts.ensures x ∙ ap (λ (uncleared : Bool). uncleared && not value) (c.in_ok-uncleared.ensures.points x))
+    ∙ not_cleared (in_range c.args.range.now x) (in_set own.cleared x) value (c.requires.cleared x)
+
+pub returns-clause-apart : goal.returns-clause-apart
+returns-clause-apart c =
+    ap is_apart (c.in_ok-add_all.ensures.list ∙ ap (with_ranges c.in_ok-parts.parts.items) c.new-undecided.ensures)
+    ∙ apart-with_ranges c.in_ok-parts.parts.items [] refl

@@ -10,7 +10,8 @@ returns-clause-kept c =
     let old = c.args.self.now in
     let mutation = c.args.mutation.now in
     let mutations = mutations_of (program old.transcript.ops) in
-    rw (c.in_ok-push_write.ensures.answers, c.hold.ensures) (are-push old.transcript.ops (operation.Write mutation, answer.Done) old.own
+    rw (c.in_ok-push_write.ensures.answers, c.hold.ensures)
+    (are-push old.transcript.ops (operation.Write mutation, answer.Done) old.own
     c.buffer.new.own old.reads old.writes old.reads c.buffer.new.writes old.mutates true c.requires.kept
     c.in_default.ensures.kept c.in_default.ensures.legal_keys c.in_default.ensures.cleared refl
     c.in_default.ensures.writes (pushed-not-empty mutations mutation)

@@ -32,7 +32,8 @@ invariant_of-self c =
           is_log-push _ c.args.message.now _ c.take.new.held.waiting
           (takes-written _ c.args.message.now c.self.inside.queues.len c.take.new.queues c.deref_mut.result.now
           c.take.new.held.waiting c.self.invariant.is_log works (omega (arith, free.1)) c.deref_mut.ensures.value
-          c.take.auto.queues c.self.inside.queues.ok.0 c.in-Ok.ensures.kept c.in-Ok.ensures.waiting);
+          c.take.auto.queues c.self.inside.queues.ok.0 c.in-Ok.ensures.kept c.in-Ok.ensures.waiting
+          c.in-Ok.ensures.elsewhere);
       placed = λ _. c.in-Ok.ensures.placed;
       listed = λ _. c.in-Ok.ensures.listed _ c.self.inside.last (omega (arith, free.1)) (c.self.invariant.listed works);
     }
@@ -45,4 +46,5 @@ returns-in-Ok-clause-taken c =
     (takes-written _ c.args.message.now c.self.inside.queues.len c.take.new.queues c.deref_mut.result.now
     c.take.new.held.waiting
     c.self.invariant.is_log (ap (λ (core : Log). core.is_failed) c.self.view_is ∙ free.0) (omega (arith, free.1))
-    c.deref_mut.ensures.value c.take.auto.queues c.self.inside.queues.ok.0 c.in-Ok.ensures.kept c.in-Ok.ensures.waiting)
+    c.deref_mut.ensures.value c.take.auto.queues c.self.inside.queues.ok.0 c.in-Ok.ensures.kept c.in-Ok.ensures.waiting
+    c.in-Ok.ensures.elsewhere)

@@ -1,6 +1,7 @@
-use Rattle.std.proofs.Common.{◌≡◌, ◌∙◌, sym, false, rules}
+use Rattle.std.proofs.Common.{◌≡◌, ◌∙◌, sym, true, false, rules}
 use Rattle.fdb_keys.specs.Points.{point_lt}
 use Rattle.fdb_interval.proofs.Exports.{rising_from_sorted, value-throughout, none-inside, value-nowhere, none-anywhere}
+use Rattle.fdb_owners.proofs.SoleLemmas.{one-inside}
 use Rattle.fdb_owners.proofs.pieces.Pieces.history_between.Goals as goal
 
 pub returns-in-Some-2-clause-history : goal.returns-in-Some-2-clause-history
@@ -39,3 +40,9 @@ returns-in-Some-2-clause-rising c = rising_from_sorted c.args.self.now.breaks.en
 
 pub returns-in-None-clause-rising : goal.returns-in-None-clause-rising
 returns-in-None-clause-rising c = rising_from_sorted c.args.self.now.breaks.entries c.range.ensures.ordered
+
+pub returns-in-Some-clause-none : goal.returns-in-Some-clause-none
+returns-in-Some-clause-none c =
+    let later : point_lt c.args.begin.now c.in-Some.point.now ≡ true = search rules in
+    one-inside c.args.self.now.breaks.entries c.next_back.new.self (c.in-Some.point.now, c.in-Some._history.now)
+    c.args.begin.now c.args.end.now (sym (c.range.ensures.between tt) ∙ c.in-Some.ensures.steps) later

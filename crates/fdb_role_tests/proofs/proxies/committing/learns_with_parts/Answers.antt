@@ -1,4 +1,4 @@
 use Rattle.fdb_role_tests.proofs.proxies.committing.learns_with_parts.Goals as goal
 
 pub learn_with_parts-requires : goal.learn_with_parts-requires
-learn_with_parts-requires c = c.ticket.ensures c.seal_four.new.core.proxy c.in_ok-seal_four.ensures
+learn_with_parts-requires c = c.in_ok-ticket.ensures c.seal_four.new.core.proxy c.in_ok-seal_four.ensures

@@ -2,11 +2,12 @@ use Rattle.std.proofs.Common.{◌≡◌, ◌∙◌, sym, ap, subst, suc, length,
 use Rattle.fdb_keys.specs.declared.refusal.Refused.{Refused}
 use Rattle.fdb_txn.specs.declared.entry.Entry.{Entry}
 use Rattle.fdb_txn.specs.book.History.{AreEntries}
-use Rattle.fdb_book.specs.Appending.{append_fault, Appends}
+use Rattle.fdb_book.specs.Appending.{append_fault, Appends, Found}
 use Rattle.fdb_sections.specs.Issuing.{IsAppendRefused, AppendsToFront}
 use Rattle.fdb_sections.proofs.IssueLemmas.{one-entry-more, front-after, append-refused}
 use Rattle.fdb_sections.proofs.known_front.KnownFront.append.Goals as goal
-use Rattle.fdb_sections.proofs.known_front.KnownFront.append.Goals.{in-Ok, in-Err+in-Some-1, in-Err+in-None-1}
+use Rattle.fdb_sections.proofs.known_front.KnownFront.append.Goals.{in-Ok, in-Err+in-Some+in-Some-refused-2}
+use Rattle.fdb_sections.proofs.known_front.KnownFront.append.Goals.{in-Err+in-Some+in-None-1, in-Err+in-None-1}
 
 pub invariant_of-result : goal.invariant_of-result
 invariant_of-result g c =
@@ -24,7 +25,7 @@ invariant_of-self g c =
 pub returns-clause-answers : goal.returns-clause-answers
 returns-clause-answers g c =
     let capacity = length g.B.BookName.cells in
-    let refused : (why : Refused (Option (List Entry))) → Appends capacity c.self.inside.front c.args.entry (Err why)
+    let refused : (why : Refused (Option Found)) → Appends capacity c.self.inside.front c.args.entry (Err why)
     → IsAppendRefused (append_fault capacity c.args.self.now c.args.entry) why.why =
     λ why answers. subst (λ (front : List Entry). IsAppendRefused (append_fault capacity front c.args.entry) why.why)
     c.self.view_is (append-refused capacity c.self.inside.front c.args.entry why answers) in
@@ -35,7 +36,10 @@ returns-clause-answers g c =
                 w.in-Ok.ensures.answers.0,
             w.in-Ok.ensures.answers.1 ∙ ap (λ (front : List Entry). front ++ c.args.entry ∷ []) c.self.view_is,
           )
-      | in-Err+in-Some-1 w ↦
+      | in-Err+in-Some+in-Some-refused-2 w ↦
+          subst (AppendsToFront capacity c.args.self.now c.args.entry) (sym w.result-is)
+          (refused w.in-Err.refused w.in-Err.ensures.answers)
+      | in-Err+in-Some+in-None-1 w ↦
           subst (AppendsToFront capacity c.args.self.now c.args.entry) (sym w.result-is)
           (refused w.in-Err.refused w.in-Err.ensures.answers)
       | in-Err+in-None-1 w ↦

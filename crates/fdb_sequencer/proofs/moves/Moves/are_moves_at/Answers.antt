@@ -1,7 +1,8 @@
-use Rattle.std.proofs.Common.{◌∙◌, sym, ap, ◌&&◌}
+use Rattle.std.proofs.Common.{◌∙◌, sym, ap, ◌&&◌, List}
 use Rattle.std.specs.Cmp.Lexicographic.{pointwise}
 use Rattle.fdb_sequencer.specs.Equality.{dated_eq}
-use Rattle.fdb_sequencer.specs.Moves.{Moves, dated, unlearnt_of}
+use Rattle.fdb_txn.specs.declared.entry.Move.{Move}
+use Rattle.fdb_sequencer.specs.Moves.{dated, unlearnt_of}
 use Rattle.fdb_sequencer.proofs.MoveLemmas.{pointwise-parts}
 use Rattle.fdb_sequencer.proofs.moves.Moves.are_moves_at.Goals as goal
 
@@ -16,7 +17,7 @@ returns-then-eq c =
     c.split_at.ensures.back in
     let same = sym c.if-eq.true ∙ c.eq.ensures in
     c.are_dated.ensures
-    ∙ ap (λ (m : Moves). pointwise dated_eq rest (dated c.args.version m.pending)) c.self.view_is
+    ∙ ap (λ (moves : List Move). pointwise dated_eq rest (dated c.args.version moves)) c.pending.ensures
     ∙ (λ i. same i && pointwise dated_eq rest pending)
     ∙ parts
 

@@ -1,4 +1,4 @@
-use Rattle.std.proofs.Common.{◌∙◌, ap, ℕ, map, drop}
+use Rattle.std.proofs.Common.{◌∙◌, ap, ℕ, [], map, drop}
 use Rattle.fdb_sequencer.proofs.MoveLemmas.{none_unlearnt}
 use Rattle.fdb_sequencer.proofs.moves.Moves.new.Goals as goal
 
@@ -8,4 +8,4 @@ returns c =
     let unlearnt =
     ap (map (λ (count : ℕ). drop count c.new.result.items)) had
     ∙ none_unlearnt c.new.result.items c.args.proxies c.new.ensures.items in
-    λ i. record { pending = c.new-2.ensures i; unlearnt = unlearnt i }
+    λ i. record { pending = []; unlearnt = unlearnt i }

@@ -1,4 +1,4 @@
-use Rattle.fdb_running_tests.proofs.moves.moves_are_refused_once_there_are_too_many.Given as goal
+use Rattle.fdb_running_tests.proofs.moves.as_many_moves_as_there_may_be_hold_no_commit_up.Given as goal
 
 abbrev pub ghosts-fill_moves-B-BookName : goal.ghosts-fill_moves-B-BookName
 ghosts-fill_moves-B-BookName g a = record { cells = a.blank }

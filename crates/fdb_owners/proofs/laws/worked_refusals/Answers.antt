@@ -1,0 +1,28 @@
+use Rattle.std.proofs.Common.{refl}
+use Rattle.fdb_keys.specs.Points.{point_lt}
+use Rattle.fdb_owners.proofs.laws.worked_refusals.Goals as goal
+
+pub returns : goal.returns
+unfolding point_lt
+returns c = (
+  refl,
+  refl,
+  refl,
+  refl,
+  refl,
+  refl,
+  refl,
+  refl,
+  refl,
+  refl,
+  refl,
+  refl,
+  refl,
+  refl,
+  refl,
+  refl,
+  refl,
+  refl,
+  refl,
+  refl,
+)
