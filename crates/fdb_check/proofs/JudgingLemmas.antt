@@ -8,7 +8,7 @@ use Rattle.fdb_keys.specs.declared.refusal.Refusal.{Refusal}
 use Rattle.fdb_keys.specs.declared.refusal.Refusal.TheVariants.{NoMemory}
 use Rattle.fdb_txn.specs.declared.entry.Entry.{Entry}
 use Rattle.fdb_txn.specs.declared.entry.Move.{Move}
-use Rattle.fdb_txn.specs.book.Book.{Stamped, Seen, add_moves, seen_of}
+use Rattle.fdb_txn.specs.book.Book.{Stamped, Seen, add_moves, head_of, seen_of}
 use Rattle.fdb_txn.specs.book.History.{AreEntries}
 use Rattle.fdb_txn.proofs.Exports.{seen_of-push}
 use Rattle.fdb_owners.specs.Ownership.{Ownership, resolvers_of, learn_fault, HasLearnt}
@@ -65,8 +65,7 @@ module _ (splits : List Point) (before : List Entry) (entry : Entry)
       said-is i one there =
           let came = came-of i (within-said i one there) in same_Some one came.1 (sym there ∙ came.3) ∙ came.4
 
-      by-the-rule : AreByTheRule splits entry.version (moves_through (seen_of before) entry) entry.batch
-          (seen_of before).places said
+      by-the-rule : AreByTheRule splits (head_of (seen_of before) entry) entry.batch (seen_of before).places said
       by-the-rule = record {
         count = have.as_many ∙ are.count;
         came = λ i one there. same_Some one (verdicts_on splits i (seen_of before) entry) (said-is i (Some one) there);

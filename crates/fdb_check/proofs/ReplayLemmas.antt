@@ -10,7 +10,7 @@ use Rattle.fdb_mutations.specs.declared.mutation.Mutation.{Mutation}
 use Rattle.fdb_mutations.specs.Maps.{Map}
 use Rattle.fdb_mutations.specs.Mutations.{effect, effects}
 use Rattle.fdb_txn.specs.book.Transactions.{Transaction}
-use Rattle.fdb_txn.specs.book.Book.{Stamped, Place, placed}
+use Rattle.fdb_txn.specs.book.Book.{Head, Place, placed}
 use Rattle.fdb_txn.specs.book.Places.{place_in}
 use Rattle.fdb_txn.specs.rules.Admission.{committed}
 use Rattle.fdb_txn.specs.rules.Messages.{mutations_in, at_place}
@@ -111,37 +111,36 @@ serial_map-place splits earlier place p =
     by_cases false = refl
 
 -- the serial map right before a place of a batch
-pub place-map : (splits : List Point) (version : ℕ) (moves : List Stamped) (batch : List Transaction)
-    (earlier : List Place) (n p : ℕ)
+pub place-map : (splits : List Point) (head : Head) (batch : List Transaction) (earlier : List Place) (n p : ℕ)
     (there : Place × List Place)
-    → place_in version moves batch earlier p ≡ Some there
+    → place_in head n batch earlier p ≡ Some there
     → serial_map splits there.1 ≡ map_after (serial_map splits earlier) batch
-    (outcomes_from splits version moves batch earlier n) p
+    (outcomes_from splits head batch earlier n) p
 unfolding writes_by
-place-map splits version moves [] earlier n p there at = cc
-place-map splits version moves (t ∷ ts) earlier n zero there at = let same : there
-    ≡ (placed version moves t, earlier) = cc in
+place-map splits head [] earlier n p there at = cc
+place-map splits head (t ∷ ts) earlier n zero there at =
+    let same : there ≡ (placed head n t, earlier) = cc in
     ap (λ (one : Place × List Place). serial_map splits one.1) same
-place-map splits version moves (t ∷ ts) earlier n (suc p) there at =
-    place-map splits version moves ts (place ∷ earlier) (suc n) p there at
+place-map splits head (t ∷ ts) earlier n (suc p) there at =
+    place-map splits head ts (place ∷ earlier) (suc n) p there at
     ∙ after-writes (serial_map splits (place ∷ earlier)) ts
-    (outcomes_from splits version moves ts (place ∷ earlier) (suc n)) p
+    (outcomes_from splits head ts (place ∷ earlier) (suc n)) p
     ∙ ap (λ (map : Map). effects map others) (serial_map-place splits earlier place n)
     ∙ sym (effects-append (serial_map splits earlier)
     (if is_commit (outcome_at splits earlier place n) then t.mutations else []) others)
-    ∙ sym (after-writes (serial_map splits earlier) (t ∷ ts) (outcomes_from splits version moves (t ∷ ts) earlier n)
+    ∙ sym (after-writes (serial_map splits earlier) (t ∷ ts) (outcomes_from splits head (t ∷ ts) earlier n)
     (suc p))
   where
     place : Place
-    place = placed version moves t
+    place = placed head n t
 
     others : List Mutation
-    others = writes_by (take p ts) (take p (outcomes_from splits version moves ts (place ∷ earlier) (suc n)))
+    others = writes_by (take p ts) (take p (outcomes_from splits head ts (place ∷ earlier) (suc n)))
 
-pub place-within : (version : ℕ) (moves : List Stamped) (batch : List Transaction) (earlier : List Place) (p : ℕ)
+pub place-within : (head : Head) (n : ℕ) (batch : List Transaction) (earlier : List Place) (p : ℕ)
     (there : Place × List Place)
-    → place_in version moves batch earlier p ≡ Some there → p < length batch
-place-within version moves [] earlier p there at = cc
-place-within version moves (t ∷ ts) earlier zero there at = omega arith
-place-within version moves (t ∷ ts) earlier (suc p) there at =
-    let within = place-within version moves ts (placed version moves t ∷ earlier) p there at in omega (arith, within)
+    → place_in head n batch earlier p ≡ Some there → p < length batch
+place-within head n [] earlier p there at = cc
+place-within head n (t ∷ ts) earlier zero there at = omega arith
+place-within head n (t ∷ ts) earlier (suc p) there at =
+    let within = place-within head (suc n) ts (placed head n t ∷ earlier) p there at in omega (arith, within)

@@ -11,13 +11,13 @@ use Rattle.fdb_mutations.specs.Maps.{Map}
 use Rattle.fdb_mutations.specs.Mutations.{effects}
 use Rattle.fdb_txn.specs.declared.entry.Entry.{Entry}
 use Rattle.fdb_txn.specs.book.Transactions.{Transaction}
-use Rattle.fdb_txn.specs.book.Book.{Seen, seen_of, last_version, seen_before}
+use Rattle.fdb_txn.specs.book.Book.{Seen, head_of, seen_of, last_version, seen_before}
 use Rattle.fdb_txn.specs.book.History.{AreEntries}
 use Rattle.fdb_txn.specs.rules.Messages.{Body, mutations_in}
 use Rattle.fdb_txn.specs.rules.SerialMap.{serial_map, serial_map_at}
 use Rattle.fdb_txn.proofs.Exports.{serial_map-add_places}
 use Rattle.fdb_proxy.specs.declared.outcome.Outcome.{Outcome}
-use Rattle.fdb_proxy.specs.Verdicts.{moves_through, outcomes_on}
+use Rattle.fdb_proxy.specs.Verdicts.{outcomes_on}
 use Rattle.fdb_proxy.proofs.Exports.{body-committed}
 use Rattle.fdb_roles.specs.Bodies.{body_by}
 use Rattle.fdb_roles.proofs.Exports.{length-outcomes_on, take-next, entries-take, seen_before-next, last-push}
@@ -112,7 +112,7 @@ module _ (splits : List Point) (book : List Entry) (entries : AreEntries (suc (l
         (take_all (length entry.batch) entry.batch (le_refl (length entry.batch)))
         (take_all (length entry.batch) decided (omega (arith, as_many)))
         ∙ ap (λ (body : Body). effects after (mutations_in body)) (body-committed splits before entry)
-        ∙ sym (serial_map-add_places splits entry.version (moves_through before entry) 0 entry.batch before.places)
+        ∙ sym (serial_map-add_places splits (head_of before entry) 0 entry.batch before.places)
         ∙ ap (λ (seen : Seen). serial_map splits seen.places) (sym (seen_before-next book n entry there))
 
 -- a run that goes on within an entry

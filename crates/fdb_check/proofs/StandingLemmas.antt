@@ -10,7 +10,7 @@ use Rattle.fdb_keys.specs.declared.refusal.Refusal.{Refusal}
 use Rattle.fdb_mutations.specs.Maps.{Map}
 use Rattle.fdb_txn.specs.declared.entry.Entry.{Entry}
 use Rattle.fdb_txn.specs.book.Transactions.{Transaction}
-use Rattle.fdb_txn.specs.book.Book.{Stamped, Place, Seen, placed, seen_before, seen_of}
+use Rattle.fdb_txn.specs.book.Book.{Head, Place, Seen, head_of, placed, seen_before, seen_of}
 use Rattle.fdb_txn.specs.book.Places.{place_in, place_of, place_at}
 use Rattle.fdb_txn.specs.rules.Admission.{committed}
 use Rattle.fdb_txn.specs.rules.SerialMap.{serial_map, serial_map_at}
@@ -19,7 +19,7 @@ use Rattle.fdb_txn.specs.declared.spot.Spot.TheVariants as spot
 use Rattle.fdb_txn.specs.book.History.{AreEntries}
 use Rattle.fdb_proxy.specs.declared.outcome.Outcome.{Outcome}
 use Rattle.fdb_proxy.specs.Logging.{is_commit}
-use Rattle.fdb_proxy.specs.Verdicts.{moves_through, outcomes_on, outcome_at}
+use Rattle.fdb_proxy.specs.Verdicts.{outcomes_on, outcome_at}
 use Rattle.fdb_client.specs.declared.program.Transcript.{Transcript}
 use Rattle.fdb_client.specs.Programs.{commit_request_of}
 use Rattle.fdb_proxy.proofs.Exports.{commit-at}
@@ -41,13 +41,13 @@ use Rattle.fdb_check.specs.declared.fault.CheckFault.TheVariants as fault
 none-there : (before : Seen) (p : ℕ) (there : Place × List Place) → place_of before p None ≡ Some there → ⊥
 none-there before p there is = cc
 
-none-in : (version : ℕ) (moves : List Stamped) (batch : List Transaction) (earlier : List Place) (p : ℕ)
+none-in : (head : Head) (n : ℕ) (batch : List Transaction) (earlier : List Place) (p : ℕ)
     (there : Place × List Place)
-    → slice_get batch p ≡ None → place_in version moves batch earlier p ≡ Some there → ⊥
-none-in version moves [] earlier p there none is = cc
-none-in version moves (t ∷ batch) earlier zero there none is = cc
-none-in version moves (t ∷ batch) earlier (suc p) there none is =
-    none-in version moves batch (placed version moves t ∷ earlier) p there none is
+    → slice_get batch p ≡ None → place_in head n batch earlier p ≡ Some there → ⊥
+none-in head n [] earlier p there none is = cc
+none-in head n (t ∷ batch) earlier zero there none is = cc
+none-in head n (t ∷ batch) earlier (suc p) there none is =
+    none-in head (suc n) batch (placed head n t ∷ earlier) p there none is
 
 -- what isn't so is answered by false
 pub answers-not : {P : Type 0} → (P → ⊥) → (false ≡ true) ↔ P
@@ -62,20 +62,22 @@ module _ (splits : List Point) (book : List Entry) (n p version : ℕ) (transcri
     abbrev before : Seen
     before = seen_before book n
 
+    abbrev head : Head
+    head = head_of before entry
+
     pub no-place : slice_get entry.batch p ≡ None → IsSerializedAt splits book transcript n p version → ⊥
-    no-place none stands = none-in entry.version (moves_through before entry) entry.batch before.places p stands.0 none
+    no-place none stands = none-in head 0 entry.batch before.places p stands.0 none
         (ap (place_of before p) (sym there) ∙ stands.1)
 
     module _ (t : Transaction) (at : slice_get entry.batch p ≡ Some t) where
       pub found : (earlier : List Place)
-          × (place_in entry.version (moves_through before entry) entry.batch before.places p
-          ≡ Some (placed entry.version (moves_through before entry) t, earlier))
+          × (place_in head 0 entry.batch before.places p ≡ Some (placed head (0 + p) t, earlier))
           × (slice_get (outcomes_on splits before entry) p
-          ≡ Some (outcome_at splits earlier (placed entry.version (moves_through before entry) t) (0 + p)))
-      found = place-found splits entry.version (moves_through before entry) entry.batch before.places 0 p t at
+          ≡ Some (outcome_at splits earlier (placed head (0 + p) t) (0 + p)))
+      found = place-found splits head entry.batch before.places 0 p t at
 
       abbrev here : Place × List Place
-      here = (placed entry.version (moves_through before entry) t, found.0)
+      here = (placed head (0 + p) t, found.0)
 
       here-is : place_at book n p ≡ Some here
       here-is = ap (place_of before p) there ∙ found.1
@@ -132,8 +134,7 @@ module _ (splits : List Point) (book : List Entry) (n p version : ℕ) (transcri
         where
           run_is : serial_map splits here.1
               ≡ map_after (serial_map splits before.places) entry.batch (outcomes_on splits before entry) p
-          run_is = place-map splits entry.version (moves_through before entry)
-              entry.batch before.places 0 p here found.1
+          run_is = place-map splits head entry.batch before.places 0 p here found.1
 
 -- and of one that wrote nothing, by the run that has come to its version
 pub reads-there : (splits : List Point) (book : List Entry)

@@ -2,7 +2,8 @@
 use Rattle.std.specs.Prelude.{ℕ, List, codes}
 use Rattle.fdb_keys.specs.declared.refusal.Refusal.{Refusal}
 use Rattle.fdb_keys.specs.declared.refusal.Refusal.TheVariants.{TransactionTooOld, FutureVersion, NotCommitted}
-use Rattle.fdb_keys.specs.declared.refusal.Refusal.TheVariants.{CommitUnknownResult, KeyOutsideLegalRange}
+use Rattle.fdb_keys.specs.declared.refusal.Refusal.TheVariants.{CommitUnknownResult, AccessedUnreadable}
+use Rattle.fdb_keys.specs.declared.refusal.Refusal.TheVariants.{KeyOutsideLegalRange}
 use Rattle.fdb_keys.specs.declared.refusal.Refusal.TheVariants.{InvertedRange, TransactionTooLarge, KeyTooLarge}
 use Rattle.fdb_keys.specs.declared.refusal.Refusal.TheVariants.{ValueTooLarge, NoMemory, NotYet, Stale, Failed}
 use Rattle.fdb_keys.specs.declared.refusal.Refusal.TheVariants.{Exhausted, BookFull, Repeated, BadOperand, BadConfig}
@@ -15,6 +16,7 @@ code_of TransactionTooOld = 1007
 code_of FutureVersion = 1009
 code_of NotCommitted = 1020
 code_of CommitUnknownResult = 1021
+code_of AccessedUnreadable = 1036
 code_of KeyOutsideLegalRange = 2004
 code_of InvertedRange = 2005
 code_of TransactionTooLarge = 2101
@@ -43,6 +45,7 @@ name_of TransactionTooOld = codes "TransactionTooOld"
 name_of FutureVersion = codes "FutureVersion"
 name_of NotCommitted = codes "NotCommitted"
 name_of CommitUnknownResult = codes "CommitUnknownResult"
+name_of AccessedUnreadable = codes "AccessedUnreadable"
 name_of KeyOutsideLegalRange = codes "KeyOutsideLegalRange"
 name_of InvertedRange = codes "InvertedRange"
 name_of TransactionTooLarge = codes "TransactionTooLarge"

@@ -23,7 +23,7 @@ use Rattle.fdb_owners.specs.Spreads.{is_held}
 use Rattle.fdb_resolver.specs.declared.part.Item.{Item}
 use Rattle.fdb_proxy.specs.declared.parting.Kind.{Kind}
 use Rattle.fdb_proxy.specs.declared.parting.Kind.TheVariants.{Reads, Writes}
-use Rattle.fdb_proxy.specs.declared.parting.Head.{Head}
+use Rattle.fdb_proxy.specs.declared.parting.Reading.{Reading}
 use Rattle.fdb_proxy.specs.declared.parting.Spread.{Spread}
 use Rattle.fdb_proxy.specs.Spreads.{IsSpreadOf, IsItemIfAsked}
 use Rattle.fdb_proxy.specs.Held.{Held, is_kind, with_ranges, with_parts, IsItemWith, IsItemSoFar}
@@ -94,11 +94,11 @@ some-at number [] i here = cc
 some-at number (item ∷ items) i here = omega arith
 
 -- what is held alike makes the same items
-pub so_far-same : (number : ℕ) (head : Head) (one other : Held) (same : (kind : Kind) (x : Point)
-    → one kind x ≡ other kind x) (item : Option Item) → IsItemSoFar number head one item
-    → IsItemSoFar number head other item
-so_far-same number head one other same None none = λ kind x. sym (same kind x) ∙ none kind x
-so_far-same number head one other same (Some item) it =
+pub so_far-same : (number : ℕ) (reading : Reading) (one other : Held) (same : (kind : Kind) (x : Point)
+    → one kind x ≡ other kind x) (item : Option Item) → IsItemSoFar number reading one item
+    → IsItemSoFar number reading other item
+so_far-same number reading one other same None none = λ kind x. sym (same kind x) ∙ none kind x
+so_far-same number reading one other same (Some item) it =
     record {
       has = record {
         place = it.has.place;
@@ -110,26 +110,26 @@ so_far-same number head one other same (Some item) it =
       some = (it.some.0, it.some.1, sym (same it.some.0 it.some.1) ∙ it.some.2);
     }
 
-pub ends-same : (number : ℕ) (head : Head) (one other : Held) (before items : List Item)
-    → ((kind : Kind) (x : Point) → one kind x ≡ other kind x) → EndsWithItem number head one before items
-    → EndsWithItem number head other before items
-ends-same number head one other before items same ends =
-    (ends.0, ends.1, so_far-same number head one other same ends.0 ends.2)
+pub ends-same : (number : ℕ) (reading : Reading) (one other : Held) (before items : List Item)
+    → ((kind : Kind) (x : Point) → one kind x ≡ other kind x) → EndsWithItem number reading one before items
+    → EndsWithItem number reading other before items
+ends-same number reading one other before items same ends =
+    (ends.0, ends.1, so_far-same number reading one other same ends.0 ends.2)
 
 -- an item where nothing of the place was held
-module _ (number : ℕ) (head : Head) (held : Held) (before items now : List Item) (index : ℕ)
-    (below : AllByRecursion (IsBelow number) before) (ends : EndsWithItem number head held before items) where
+module _ (number : ℕ) (reading : Reading) (held : Held) (before items now : List Item) (index : ℕ)
+    (below : AllByRecursion (IsBelow number) before) (ends : EndsWithItem number reading held before items) where
   -- the items end with its item after one was pushed that has nothing
   pub opened-new : (item : Item) → is_at number (slice_get items (length items - 1)) ≡ false
       → now ≡ items ++ item ∷ [] → index ≡ length now - 1 → item.place ≡ number
-      → item.read_version ≡ head.read_version → item.has_reads ≡ head.has_reads → item.reads ≡ []
+      → item.read_version ≡ reading.read_version → item.has_reads ≡ reading.has_reads → item.reads ≡ []
       → item.writes ≡ []
-      → (it : Item) × (now ≡ before ++ it ∷ []) × (index ≡ length before) × IsItemWith number head held it
+      → (it : Item) × (now ≡ before ++ it ∷ []) × (index ≡ length before) × IsItemWith number reading held it
   opened-new item not_at pushed at place read has_reads no_reads no_writes =
       from ends.0 ends.1 ends.2
     where
-      from : (given : Option Item) → items ≡ before ++ option_to_list given → IsItemSoFar number head held given
-          → (it : Item) × (now ≡ before ++ it ∷ []) × (index ≡ length before) × IsItemWith number head held it
+      from : (given : Option Item) → items ≡ before ++ option_to_list given → IsItemSoFar number reading held given
+          → (it : Item) × (now ≡ before ++ it ∷ []) × (index ≡ length before) × IsItemWith number reading held it
       from None is none =
           let same : items ≡ before = is ∙ append-nil before in
           let pushed_to : now ≡ before ++ item ∷ [] = pushed ∙ ap (λ (list : List Item). list ++ item ∷ []) same in
@@ -154,11 +154,11 @@ module _ (number : ℕ) (head : Head) (held : Held) (before items now : List Ite
 
   -- and they do where it was there
   pub opened-old : is_at number (slice_get items (length items - 1)) ≡ true → now ≡ items → index ≡ length now - 1
-      → (it : Item) × (now ≡ before ++ it ∷ []) × (index ≡ length before) × IsItemWith number head held it
+      → (it : Item) × (now ≡ before ++ it ∷ []) × (index ≡ length before) × IsItemWith number reading held it
   opened-old here same at = from ends.0 ends.1 ends.2
     where
-      from : (given : Option Item) → items ≡ before ++ option_to_list given → IsItemSoFar number head held given
-          → (it : Item) × (now ≡ before ++ it ∷ []) × (index ≡ length before) × IsItemWith number head held it
+      from : (given : Option Item) → items ≡ before ++ option_to_list given → IsItemSoFar number reading held given
+          → (it : Item) × (now ≡ before ++ it ∷ []) × (index ≡ length before) × IsItemWith number reading held it
       from None is none =
           let nothing : items ≡ before = is ∙ append-nil before in
           absurd (both_ways (is_at number (slice_get items (length items - 1)))
@@ -175,12 +175,12 @@ is_kind-itself Reads = refl
 is_kind-itself Writes = refl
 
 -- a part's ranges came to the last item
-pub ends-held : (number : ℕ) (head : Head) (held : Held) (before items now : List Item) (index : ℕ)
+pub ends-held : (number : ℕ) (reading : Reading) (held : Held) (before items now : List Item) (index : ℕ)
     (item later : Item) (kind : Kind) (ranges : List Range) → has_points ranges ≡ true
     → items ≡ before ++ item ∷ [] → index ≡ length before → now ≡ set items index later
-    → IsItemWith number head (with_ranges kind ranges held) later
-    → EndsWithItem number head (with_ranges kind ranges held) before now
-ends-held number head held before items now index item later kind ranges some is at sets with =
+    → IsItemWith number reading (with_ranges kind ranges held) later
+    → EndsWithItem number reading (with_ranges kind ranges held) before now
+ends-held number reading held before items now index item later kind ranges some is at sets with =
     let point = point_of-set ranges some in (
       Some later,
       sets ∙ ap (λ (list : List Item). set list index later) is ∙ set_at before item [] later index (sym at),
@@ -228,33 +228,33 @@ with_parts-other kind parts part i held not_own other x =
     ∙ or-false (is_held parts i x)))
 
 -- one part more was given out
-pub held-next : (number : ℕ) (head : Head) (kind : Kind) (parts more : List Owned) (part : Owned) (i : ℕ)
+pub held-next : (number : ℕ) (reading : Reading) (kind : Kind) (parts more : List Owned) (part : Owned) (i : ℕ)
     (held : Held) (before : List Item) (lists now : List (Vec Item Global)) (items : Vec Item Global)
     → more ≡ parts ++ part ∷ [] → part.resolver < length lists → now ≡ set lists part.resolver items
-    → EndsWithItem number head (with_parts kind parts i held) before (items_at lists i)
-    → ((one : Held) → EndsWithItem number head one before (items_at lists part.resolver)
-    → EndsWithItem number head (with_ranges kind part.ranges one) before items.items)
-    → EndsWithItem number head (with_parts kind more i held) before (items_at now i)
-held-next number head kind parts more part i held before lists now items adds within sets ends step =
-    subst (λ (all : List Owned). EndsWithItem number head (with_parts kind all i held) before (items_at now i))
+    → EndsWithItem number reading (with_parts kind parts i held) before (items_at lists i)
+    → ((one : Held) → EndsWithItem number reading one before (items_at lists part.resolver)
+    → EndsWithItem number reading (with_ranges kind part.ranges one) before items.items)
+    → EndsWithItem number reading (with_parts kind more i held) before (items_at now i)
+held-next number reading kind parts more part i held before lists now items adds within sets ends step =
+    subst (λ (all : List Owned). EndsWithItem number reading (with_parts kind all i held) before (items_at now i))
     (sym adds)
     (⊎_elim
     (λ (own : (part.resolver == i) ≡ true).
     let same : part.resolver ≡ i = eqb-true part.resolver i own in
-    ends-same number head (with_ranges kind part.ranges (with_parts kind parts i held))
+    ends-same number reading (with_ranges kind part.ranges (with_parts kind parts i held))
     (with_parts kind (parts ++ part ∷ []) i held) before (items_at now i)
     (with_parts-own kind parts part i held own)
-    (subst (EndsWithItem number head (with_ranges kind part.ranges (with_parts kind parts i held)) before)
+    (subst (EndsWithItem number reading (with_ranges kind part.ranges (with_parts kind parts i held)) before)
     (sym (ap (λ (all : List (Vec Item Global)). items_at all i) sets
     ∙ ap (items_at (set lists part.resolver items)) (sym same)
     ∙ items_at-set_same lists part.resolver items within))
     (step (with_parts kind parts i held)
-    (subst (EndsWithItem number head (with_parts kind parts i held) before) (ap (items_at lists) (sym same)) ends))))
+    (subst (EndsWithItem number reading (with_parts kind parts i held) before) (ap (items_at lists) (sym same)) ends))))
     (λ (not_own : (part.resolver == i) ≡ false).
-    ends-same number head (with_parts kind parts i held)
+    ends-same number reading (with_parts kind parts i held)
     (with_parts kind (parts ++ part ∷ []) i held) before (items_at now i)
     (with_parts-other kind parts part i held not_own)
-    (subst (EndsWithItem number head (with_parts kind parts i held) before)
+    (subst (EndsWithItem number reading (with_parts kind parts i held) before)
     (sym (ap (λ (all : List (Vec Item Global)). items_at all i) sets
     ∙ items_at-set_other lists i part.resolver items not_own)) ends))
     (cases_Bool (part.resolver == i)))
@@ -263,9 +263,9 @@ held-next number head kind parts more part i held before lists now items adds wi
 abbrev pub nothing_held : Held
 nothing_held kind x = false
 
-pub ends-at_first : (number : ℕ) (head : Head) (items : List Item)
-    → EndsWithItem number head nothing_held items items
-ends-at_first number head items = (None, sym (append-nil items), λ kind x. refl)
+pub ends-at_first : (number : ℕ) (reading : Reading) (items : List Item)
+    → EndsWithItem number reading nothing_held items items
+ends-at_first number reading items = (None, sym (append-nil items), λ kind x. refl)
 
 -- what resolver i holds of the whole place
 abbrev pub all_held : Spread → ℕ → Held
@@ -279,7 +279,7 @@ all_held-writes spread i x = or-false (is_held spread.writes i x)
 
 -- the place's item is then what the resolver is sent
 item-whole : (splits : List Point) (i number : ℕ) (place : Place) (spread : Spread) → IsSpreadOf splits place spread
-    → (item : Option Item) → IsItemSoFar number spread.head (all_held spread i) item
+    → (item : Option Item) → IsItemSoFar number spread.reading (all_held spread i) item
     → IsItemIfAsked splits i number place item
 item-whole splits i number place spread are None none =
     unasked splits i place spread [] [] are (λ x. sym (none Reads x) ∙ all_held-reads spread i x)
@@ -310,7 +310,7 @@ item-whole splits i number place spread are (Some item) it =
         (points_from-in_set item.writes x (it.has.writes x ∙ held))
 
 pub place-whole : (number : ℕ) (spread : Spread) (i : ℕ) (before items : List Item)
-    → AllByRecursion (IsBelow number) before → EndsWithItem number spread.head (all_held spread i) before items
+    → AllByRecursion (IsBelow number) before → EndsWithItem number spread.reading (all_held spread i) before items
     → (item : Option Item) × (items ≡ before ++ option_to_list item) × AllByRecursion (IsBelow (suc number)) items
     × ((splits : List Point) (of : Place) → IsSpreadOf splits of spread → IsItemIfAsked splits i number of item)
 place-whole number spread i before items below ends = (
@@ -322,7 +322,7 @@ place-whole number spread i before items below ends = (
   λ splits of are. item-whole splits i number of spread are ends.0 ends.2,
 )
   where
-    its-place : (item : Option Item) → IsItemSoFar number spread.head (all_held spread i) item
+    its-place : (item : Option Item) → IsItemSoFar number spread.reading (all_held spread i) item
         → AllByRecursion (IsBelow (suc number)) (option_to_list item)
     its-place None none = tt
     its-place (Some item) it = let place = it.has.place in (omega (arith, place), tt)

@@ -5,14 +5,14 @@ use Rattle.std.specs.List.{range_with_len}
 use Rattle.fdb_keys.specs.Points.{Point}
 use Rattle.fdb_txn.specs.declared.entry.Entry.{Entry}
 use Rattle.fdb_txn.specs.book.Transactions.{Transaction}
-use Rattle.fdb_txn.specs.book.Book.{Stamped, Place, Seen, placed}
+use Rattle.fdb_txn.specs.book.Book.{Head, Place, Seen, head_of, placed}
 use Rattle.fdb_txn.specs.rules.Admission.{is_fresh, no_conflict, admits, all_below, committed}
 use Rattle.fdb_txn.specs.rules.Messages.{Body, at_place, committed_from, committed_in}
 use Rattle.fdb_storage.specs.LogMessages.{tagged}
 use Rattle.fdb_proxy.specs.declared.outcome.Outcome.TheVariants as outcome
 use Rattle.fdb_proxy.specs.Logging.{is_commit, answers_by, body_by, message_with}
 use Rattle.fdb_proxy.specs.MessageLaws.{MessagesHoldTheCommitted}
-use Rattle.fdb_proxy.specs.Verdicts.{outcome_at, outcomes_from, moves_through, outcomes_on}
+use Rattle.fdb_proxy.specs.Verdicts.{outcome_at, outcomes_from, outcomes_on}
 
 -- a place's outcome is a commit just where the place is committed
 pub commit-at : (splits : List Point) (earlier : List Place) (place : Place) (p : ℕ)
@@ -31,22 +31,20 @@ commit-at splits earlier place p =
     by_cases true true true = refl
 
 -- the same as `body-committed`, from place p on
-body-from : (splits : List Point) (version : ℕ) (moves : List Stamped)
-    (batch : List Transaction) (earlier : List Place) (p : ℕ)
-    → body_by p batch (answers_by batch (outcomes_from splits version moves batch earlier p))
-    ≡ committed_from splits version moves p batch earlier
-body-from splits version moves [] earlier p = refl
-body-from splits version moves (t ∷ ts) earlier p =
+body-from : (splits : List Point) (head : Head) (batch : List Transaction) (earlier : List Place) (p : ℕ)
+    → body_by p batch (answers_by batch (outcomes_from splits head batch earlier p))
+    ≡ committed_from splits head p batch earlier
+body-from splits head [] earlier p = refl
+body-from splits head (t ∷ ts) earlier p =
     ap₂ (λ (commits : Bool) (others : Body). (if commits then at_place p t.mutations else []) ++ others)
-    (commit-at splits earlier (placed version moves t) p)
-    (body-from splits version moves ts (placed version moves t ∷ earlier) (suc p))
+    (commit-at splits earlier (placed head p t) p)
+    (body-from splits head ts (placed head p t ∷ earlier) (suc p))
 
 -- the mutations by the rule's outcomes are those of the committed transactions
 pub body-committed : (splits : List Point) (before : Seen) (entry : Entry)
     → body_by 0 entry.batch (answers_by entry.batch (outcomes_on splits before entry))
     ≡ committed_in splits before entry
-body-committed splits before entry = body-from splits entry.version (moves_through before entry) entry.batch
-    before.places 0
+body-committed splits before entry = body-from splits (head_of before entry) entry.batch before.places 0
 
 -- and so each log's message has those of which it keeps a tag
 pub messages_hold_the_committed : MessagesHoldTheCommitted

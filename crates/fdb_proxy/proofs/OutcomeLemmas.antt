@@ -10,7 +10,7 @@ use Rattle.std.proofs.lemmas.Option.{slice_get_within, slice_get_cases}
 use Rattle.std.proofs.lemmas.Map.Keys.{any_passes_from_place}
 use Rattle.fdb_keys.specs.Points.{Point}
 use Rattle.fdb_txn.specs.book.Transactions.{Transaction}
-use Rattle.fdb_txn.specs.book.Book.{Stamped, Place, placed, add_places}
+use Rattle.fdb_txn.specs.book.Book.{Head, Place, head_of, placed, add_places}
 use Rattle.fdb_txn.specs.book.History.{IsHistory}
 use Rattle.fdb_txn.specs.laws.AdmissionLaws.{IsAmongAsked}
 use Rattle.fdb_txn.specs.rules.Owners.{is_asked}
@@ -21,7 +21,7 @@ use Rattle.fdb_resolver.specs.declared.verdict.Verdict.TheVariants as verdict
 use Rattle.fdb_proxy.specs.declared.outcome.Outcome.{Outcome}
 use Rattle.fdb_proxy.specs.declared.outcome.Outcome.TheVariants as outcome
 use Rattle.fdb_proxy.specs.Deciding.{Said, heard_of, is_said, is_old, is_conflict, outcome_by}
-use Rattle.fdb_proxy.specs.Verdicts.{verdict_at, verdicts_from, asks_about, outcome_at, outcomes_from, moves_through}
+use Rattle.fdb_proxy.specs.Verdicts.{verdict_at, verdicts_from, asks_about, outcome_at, outcomes_from}
 use Rattle.fdb_proxy.specs.VerdictLaws.{AreByTheRule, BatchesAreDecidedByTheRule, EntriesAreDecidedByTheRule}
 use Rattle.fdb_proxy.proofs.VerdictLemmas.{history-before}
 
@@ -81,14 +81,14 @@ nothing-here true holds = refl
 nothing-here false holds = refl
 
 -- the rule's verdicts on a batch, from resolver to resolver
-module _ (splits : List Point) (version : ℕ) (moves : List Stamped) (test : Verdict → Bool) (i : ℕ) where
+module _ (splits : List Point) (head : Head) (test : Verdict → Bool) (i : ℕ) where
   -- those on later places say nothing of an earlier one
   mentions-later_places : (ts : List Transaction) (earlier : List Place) (p q : ℕ) → q < p
-      → mentions test q (verdicts_from splits version moves i ts earlier p) ≡ false
+      → mentions test q (verdicts_from splits head i ts earlier p) ≡ false
   mentions-later_places [] earlier p q before = refl
   mentions-later_places (t ∷ ts) earlier p q before =
-      let place = placed version moves t in
-      let said = verdicts_from splits version moves i ts (place ∷ earlier) (suc p) in
+      let place = placed head p t in
+      let said = verdicts_from splits head i ts (place ∷ earlier) (suc p) in
       let asked = is_asked splits i place in
       let v = verdict_at splits i earlier place in
       mentions-front test q p v asked said
@@ -99,11 +99,11 @@ module _ (splits : List Point) (version : ℕ) (moves : List Stamped) (test : Ve
 
   -- of the first place they say what is said of it
   mentions-first : (t : Transaction) (ts : List Transaction) (earlier : List Place) (p : ℕ)
-      → mentions test p (verdicts_from splits version moves i (t ∷ ts) earlier p)
-      ≡ (is_asked splits i (placed version moves t) && test (verdict_at splits i earlier (placed version moves t)))
+      → mentions test p (verdicts_from splits head i (t ∷ ts) earlier p)
+      ≡ (is_asked splits i (placed head p t) && test (verdict_at splits i earlier (placed head p t)))
   mentions-first t ts earlier p =
-      let place = placed version moves t in
-      let said = verdicts_from splits version moves i ts (place ∷ earlier) (suc p) in
+      let place = placed head p t in
+      let said = verdicts_from splits head i ts (place ∷ earlier) (suc p) in
       let asked = is_asked splits i place in
       let v = verdict_at splits i earlier place in
       mentions-front test p p v asked said
@@ -113,11 +113,11 @@ module _ (splits : List Point) (version : ℕ) (moves : List Stamped) (test : Ve
 
   -- of a later place those on the rest do
   mentions-rest : (t : Transaction) (ts : List Transaction) (earlier : List Place) (p q : ℕ) → p < q
-      → mentions test q (verdicts_from splits version moves i (t ∷ ts) earlier p)
-      ≡ mentions test q (verdicts_from splits version moves i ts (placed version moves t ∷ earlier) (suc p))
+      → mentions test q (verdicts_from splits head i (t ∷ ts) earlier p)
+      ≡ mentions test q (verdicts_from splits head i ts (placed head p t ∷ earlier) (suc p))
   mentions-rest t ts earlier p q before =
-      let place = placed version moves t in
-      let said = verdicts_from splits version moves i ts (place ∷ earlier) (suc p) in
+      let place = placed head p t in
+      let said = verdicts_from splits head i ts (place ∷ earlier) (suc p) in
       let asked = is_asked splits i place in
       let v = verdict_at splits i earlier place in
       mentions-front test q p v asked said
@@ -126,19 +126,19 @@ module _ (splits : List Point) (version : ℕ) (moves : List Stamped) (test : Ve
       ∙ nothing-here asked (test v))
 
 -- who is asked about no place says nothing
-silent-unasked : (splits : List Point) (version : ℕ) (moves : List Stamped) (i : ℕ) (ts : List Transaction)
-    (earlier : List Place) (p : ℕ) → asks_about splits version moves i ts ≡ false
-    → verdicts_from splits version moves i ts earlier p ≡ []
-silent-unasked splits version moves i [] earlier p unasked = refl
-silent-unasked splits version moves i (t ∷ ts) earlier p unasked =
-    let place = placed version moves t in
-    let none = or_parts (is_asked splits i place) (asks_about splits version moves i ts) unasked in
-    let said = verdicts_from splits version moves i ts (place ∷ earlier) (suc p) in
+silent-unasked : (splits : List Point) (head : Head) (i : ℕ) (ts : List Transaction)
+    (earlier : List Place) (p : ℕ) → asks_about splits head i p ts ≡ false
+    → verdicts_from splits head i ts earlier p ≡ []
+silent-unasked splits head i [] earlier p unasked = refl
+silent-unasked splits head i (t ∷ ts) earlier p unasked =
+    let place = placed head p t in
+    let none = or_parts (is_asked splits i place) (asks_about splits head i (suc p) ts) unasked in
+    let said = verdicts_from splits head i ts (place ∷ earlier) (suc p) in
     ap (λ (asked : Bool). if asked then (p, verdict_at splits i earlier place) ∷ said else said) none.0
-    ∙ silent-unasked splits version moves i ts (place ∷ earlier) (suc p) none.1
+    ∙ silent-unasked splits head i ts (place ∷ earlier) (suc p) none.1
 
 -- verdicts that came decide the places of a batch
-module _ (splits : List Point) (version : ℕ) (moves : List Stamped) (verdicts : List (Option Said)) where
+module _ (splits : List Point) (head : Head) (verdicts : List (Option Said)) where
   -- of place p just that is said which resolvers that are asked say of it
   abbrev IsHeard : List Place → Place → ℕ → Type 0
   IsHeard earlier place p =
@@ -151,7 +151,7 @@ module _ (splits : List Point) (version : ℕ) (moves : List Stamped) (verdicts 
   AreHeard ts earlier p =
       (test : Verdict → Bool) (q : ℕ) → p ≤ q
       → (is_said test q verdicts ≡ true) ↔ ((i : ℕ) × (i < suc (length splits))
-      × (mentions test q (verdicts_from splits version moves i ts earlier p) ≡ true))
+      × (mentions test q (verdicts_from splits head i ts earlier p) ≡ true))
 
   -- a place of which just that is said is decided by the rule
   module _ (earlier : List Place) (place : Place) (p : ℕ) (history : IsHistory (suc (length splits)) (place ∷ earlier))
@@ -203,50 +203,50 @@ module _ (splits : List Point) (version : ℕ) (moves : List Stamped) (verdicts 
         (is_fresh place) (committed splits earlier place) old-where_not_fresh conflict-where_not_committed
 
   first-heard : (t : Transaction) (ts : List Transaction) (earlier : List Place) (p : ℕ) → AreHeard (t ∷ ts) earlier p
-      → IsHeard earlier (placed version moves t) p
+      → IsHeard earlier (placed head p t) p
   first-heard t ts earlier p heard test = (
     λ said.
         let found = (heard test p (omega arith)).0 said in
-        let parts = and_parts _ _ (sym (mentions-first splits version moves test found.0 t ts earlier p) ∙ found.2) in
+        let parts = and_parts _ _ (sym (mentions-first splits head test found.0 t ts earlier p) ∙ found.2) in
         (found.0, (found.1, parts.0), parts.1),
     λ given. (heard test p (omega arith)).1 (
       given.0,
       given.1.0,
-      mentions-first splits version moves test given.0 t ts earlier p
+      mentions-first splits head test given.0 t ts earlier p
           ∙ and_from _ _ given.1.1 given.2,
     ),
   )
 
   rest-heard : (t : Transaction) (ts : List Transaction) (earlier : List Place) (p : ℕ) → AreHeard (t ∷ ts) earlier p
-      → AreHeard ts (placed version moves t ∷ earlier) (suc p)
+      → AreHeard ts (placed head p t ∷ earlier) (suc p)
   rest-heard t ts earlier p heard test q later = (
     λ said.
         let found = (heard test q (omega arith)).0 said in
-        (found.0, found.1, sym (mentions-rest splits version moves test found.0 t ts earlier p q later) ∙ found.2),
+        (found.0, found.1, sym (mentions-rest splits head test found.0 t ts earlier p q later) ∙ found.2),
     λ given. (heard test q (omega arith)).1
-        (given.0, given.1, mentions-rest splits version moves test given.0 t ts earlier p q later ∙ given.2),
+        (given.0, given.1, mentions-rest splits head test given.0 t ts earlier p q later ∙ given.2),
   )
 
   outcomes-by_rule : (ts : List Transaction) (earlier : List Place) (p : ℕ)
-      → IsHistory (suc (length splits)) (add_places version moves ts earlier) → AreHeard ts earlier p
-      → map (outcome_by version verdicts) (range_with_len p (length ts))
-      ≡ outcomes_from splits version moves ts earlier p
+      → IsHistory (suc (length splits)) (add_places head p ts earlier) → AreHeard ts earlier p
+      → map (outcome_by head.version verdicts) (range_with_len p (length ts))
+      ≡ outcomes_from splits head ts earlier p
   outcomes-by_rule [] earlier p history heard = refl
   outcomes-by_rule (t ∷ ts) earlier p history heard =
-      let place = placed version moves t in
+      let place = placed head p t in
       ap₂ (λ (first : Outcome) (others : List Outcome). first ∷ others)
       (outcome-by_rule earlier place p
-      (history-before (suc (length splits)) version moves ts (place ∷ earlier) history)
+      (history-before (suc (length splits)) head (suc p) ts (place ∷ earlier) history)
       (first-heard t ts earlier p heard))
-      (ap (λ (q : ℕ). map (outcome_by version verdicts) (range_with_len q (length ts))) (add-one p)
+      (ap (λ (q : ℕ). map (outcome_by head.version verdicts) (range_with_len q (length ts))) (add-one p)
       ∙ outcomes-by_rule ts (place ∷ earlier) (suc p) history (rest-heard t ts earlier p heard))
 
   -- of verdicts by the rule all is heard that the resolvers say
   module _ (batch : List Transaction) (earlier : List Place)
-      (are : AreByTheRule splits version moves batch earlier verdicts) where
+      (are : AreByTheRule splits head batch earlier verdicts) where
     heard-is : (i : ℕ) (of : Option Said) → slice_get verdicts i ≡ Some of
-        → heard_of of ≡ verdicts_from splits version moves i batch earlier 0
-    heard-is i None there = sym (silent-unasked splits version moves i batch earlier 0 (are.silent i there))
+        → heard_of of ≡ verdicts_from splits head i batch earlier 0
+    heard-is i None there = sym (silent-unasked splits head i batch earlier 0 (are.silent i there))
     heard-is i (Some said) there = are.came i said there
 
     all-heard : AreHeard batch earlier 0
@@ -266,11 +266,10 @@ module _ (splits : List Point) (version : ℕ) (moves : List Stamped) (verdicts 
     )
 
 pub batches_are_decided_by_the_rule : BatchesAreDecidedByTheRule
-batches_are_decided_by_the_rule splits version moves batch earlier verdicts history are =
-    outcomes-by_rule splits version moves verdicts batch earlier 0 history
-    (all-heard splits version moves verdicts batch earlier are)
+batches_are_decided_by_the_rule splits head batch earlier verdicts history are =
+    outcomes-by_rule splits head verdicts batch earlier 0 history
+    (all-heard splits head verdicts batch earlier are)
 
 pub entries_are_decided_by_the_rule : EntriesAreDecidedByTheRule
 entries_are_decided_by_the_rule splits before entry verdicts history are =
-    batches_are_decided_by_the_rule splits entry.version (moves_through before entry) entry.batch before.places verdicts
-    history are
+    batches_are_decided_by_the_rule splits (head_of before entry) entry.batch before.places verdicts history are

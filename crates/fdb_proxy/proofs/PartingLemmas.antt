@@ -5,7 +5,7 @@ use Rattle.std.specs.Option.{option_to_list}
 use Rattle.std.proofs.lemmas.Bool.{or_left, or_right, or_cases, false_from_ne_true, both_ways}
 use Rattle.fdb_keys.specs.Points.{Point}
 use Rattle.fdb_keys.specs.Ranges.{Range, in_set}
-use Rattle.fdb_txn.specs.book.Book.{Stamped, Place, placed}
+use Rattle.fdb_txn.specs.book.Book.{Head, Place, placed}
 use Rattle.fdb_txn.specs.book.Transactions.{Transaction}
 use Rattle.fdb_txn.specs.rules.Admission.{has_points}
 use Rattle.fdb_txn.specs.rules.Owners.{is_asked}
@@ -48,16 +48,27 @@ module _ (splits : List Point) (i : ℕ) (place : Place) (spread : Spread) (read
       (point.0, or_left _ _ (sym (are.writes i point.0) ∙ sym (of_writes point.0) ∙ point.1)))
       (or_cases (has_points reads) (has_points writes) some))
 
-module _ (splits : List Point) (moves : List Stamped) (i version : ℕ) where
+module _ (splits : List Point) (head : Head) (i : ℕ) where
   -- a batch with one place more, of which the resolver is asked
-  items-push : (p : ℕ) (ts : List Transaction) (t : Transaction) (items : List Item) (item : Item)
-      → AreItems splits moves i version p ts items → is_asked splits i (placed version moves t) ≡ true
-      → item.place ≡ p + length ts → IsItemOf splits i (placed version moves t) item
-      → AreItems splits moves i version p (ts ++ t ∷ []) (items ++ item ∷ [])
-  items-push p [] t items item are asked number is =
-      inl (asked, (item, [], ap (λ (before : List Item). before ++ item ∷ []) are, omega (arith, number), is, refl))
-  items-push p (first ∷ ts) t items item are asked number is =
-      let next : item.place ≡ suc p + length ts = omega (arith, number) in
+  items-push : (p number : ℕ) (ts : List Transaction) (t : Transaction) (items : List Item) (item : Item)
+      → AreItems splits head i p ts items → is_asked splits i (placed head number t) ≡ true
+      → number ≡ p + length ts → item.place ≡ number → IsItemOf splits i (placed head number t) item
+      → AreItems splits head i p (ts ++ t ∷ []) (items ++ item ∷ [])
+  items-push p number [] t items item are asked last stands is =
+      let same : number ≡ p = omega (arith, last) in
+      inl (
+        asked,
+        (
+          item,
+          [],
+          ap (λ (before : List Item). before ++ item ∷ []) are,
+          stands ∙ same,
+          subst (λ (n : ℕ). IsItemOf splits i (placed head n t) item) same is,
+          refl,
+        ),
+      )
+  items-push p number (first ∷ ts) t items item are asked last stands is =
+      let next : number ≡ suc p + length ts = omega (arith, last) in
       ⊎_elim
       (λ here.
       let its = here.1 in
@@ -69,34 +80,34 @@ module _ (splits : List Point) (moves : List Stamped) (i version : ℕ) where
           ap (λ (all : List Item). all ++ item ∷ []) its.2,
           its.3,
           its.4,
-          items-push (suc p) ts t its.1 item its.5 asked next is,
+          items-push (suc p) number ts t its.1 item its.5 asked next stands is,
         ),
       ))
-      (λ other. inr (other.0, items-push (suc p) ts t items item other.1 asked next is))
+      (λ other. inr (other.0, items-push (suc p) number ts t items item other.1 asked next stands is))
       are
 
   -- a batch with one place more, of which it isn't asked
-  items-skip : (p : ℕ) (ts : List Transaction) (t : Transaction) (items : List Item)
-      → AreItems splits moves i version p ts items → is_asked splits i (placed version moves t) ≡ false
-      → AreItems splits moves i version p (ts ++ t ∷ []) items
-  items-skip p [] t items are unasked = inr (unasked, are)
-  items-skip p (first ∷ ts) t items are unasked = ⊎_elim
+  items-skip : (p number : ℕ) (ts : List Transaction) (t : Transaction) (items : List Item)
+      → AreItems splits head i p ts items → is_asked splits i (placed head number t) ≡ false
+      → AreItems splits head i p (ts ++ t ∷ []) items
+  items-skip p number [] t items are unasked = inr (unasked, are)
+  items-skip p number (first ∷ ts) t items are unasked = ⊎_elim
       (λ here.
       let its = here.1 in
-      inl (here.0, (its.0, its.1, its.2, its.3, its.4, items-skip (suc p) ts t its.1 its.5 unasked)))
-      (λ other. inr (other.0, items-skip (suc p) ts t items other.1 unasked))
+      inl (here.0, (its.0, its.1, its.2, its.3, its.4, items-skip (suc p) number ts t its.1 its.5 unasked)))
+      (λ other. inr (other.0, items-skip (suc p) number ts t items other.1 unasked))
       are
 
   -- with its item, if it is asked
   pub items-next : (ts : List Transaction) (t : Transaction) (number : ℕ) (items : List Item) (given : Option Item)
-      → length ts ≡ number → AreItems splits moves i version 0 ts items
-      → IsItemIfAsked splits i number (placed version moves t) given
-      → AreItems splits moves i version 0 (ts ++ t ∷ []) (items ++ option_to_list given)
+      → length ts ≡ number → AreItems splits head i 0 ts items
+      → IsItemIfAsked splits i number (placed head number t) given
+      → AreItems splits head i 0 (ts ++ t ∷ []) (items ++ option_to_list given)
   items-next ts t number items None count are unasked =
-      subst (λ (all : List Item). AreItems splits moves i version 0 (ts ++ t ∷ []) all) (sym (append-nil items))
-      (items-skip 0 ts t items are unasked)
+      subst (λ (all : List Item). AreItems splits head i 0 (ts ++ t ∷ []) all) (sym (append-nil items))
+      (items-skip 0 number ts t items are unasked)
   items-next ts t number items (Some item) count are asked =
-      items-push 0 ts t items item are asked.0 (omega (arith, asked, count)) asked.2
+      items-push 0 number ts t items item are asked.0 (omega (arith, count)) asked.1 asked.2
 
 -- what holds of each part and of one more at its number holds of all
 parts-push : (P : ℕ → Part → Type 0) (parts : List Part) (part : Part)

@@ -2,7 +2,7 @@
 use Rattle.std.proofs.Common.{◌≡◌, ◌∙◌, ap, ℕ, ◌-◌, ◌≤◌, max, Bool, ◌&&◌, ◌==◌, List, arith}
 use Rattle.fdb_keys.specs.Points.{Point}
 use Rattle.fdb_keys.specs.Ranges.{in_set}
-use Rattle.fdb_txn.specs.book.Book.{Stamped, placed}
+use Rattle.fdb_txn.specs.book.Book.{Stamped, head_at, placed}
 use Rattle.fdb_txn.specs.book.Transactions.{Transaction}
 use Rattle.fdb_txn.specs.rules.Admission.{has_points}
 use Rattle.fdb_txn.specs.rules.Owners.{window}
@@ -14,14 +14,15 @@ use Rattle.fdb_proxy.specs.declared.parting.Spread.{Spread}
 use Rattle.fdb_proxy.specs.Spreads.{IsSpreadOf}
 
 -- by owners that agree with a book, the parts are those of the book's place
-pub spread-by_book : (owners : Ownership) (moves : List Stamped) (version : ℕ) (t : Transaction) (spread : Spread)
-    → AgreesWith owners moves → owners.floor ≤ version - window → spread.head.read_version ≡ t.read
-    → spread.head.has_reads ≡ has_points t.reads
+pub spread-by_book : (owners : Ownership) (moves : List Stamped) (version number : ℕ) (t : Transaction)
+    (spread : Spread)
+    → AgreesWith owners moves → owners.floor ≤ version - window → spread.reading.read_version ≡ t.read
+    → spread.reading.has_reads ≡ has_points t.reads
     → ((i : ℕ) (x : Point) → is_held spread.reads i x
     ≡ (in_set t.reads x && owned_between owners i x (max t.read (version - window)) version))
     → ((i : ℕ) (x : Point) → is_held spread.writes i x ≡ (in_set t.writes x && (owner_at owners x version == i)))
-    → IsSpreadOf owners.splits (placed version moves t) spread
-spread-by_book owners moves version t spread agrees kept read has_reads reads writes =
+    → IsSpreadOf owners.splits (placed (head_at version moves) number t) spread
+spread-by_book owners moves version number t spread agrees kept read has_reads reads writes =
     record {
       read = read;
       has_reads = has_reads;

@@ -11,7 +11,7 @@ use Rattle.fdb_resolver.specs.declared.part.Item.{Item}
 use Rattle.fdb_resolver.specs.declared.part.Part.{Part}
 use Rattle.fdb_proxy.specs.declared.parting.Kind.{Kind}
 use Rattle.fdb_proxy.specs.declared.parting.Kind.TheVariants.{Reads, Writes}
-use Rattle.fdb_proxy.specs.declared.parting.Head.{Head}
+use Rattle.fdb_proxy.specs.declared.parting.Reading.{Reading}
 use Rattle.fdb_proxy.specs.declared.position.Position.{Position}
 
 -- which points of the reads, and which of the writes, a resolver holds
@@ -33,27 +33,27 @@ abbrev pub with_parts : Kind → List Owned → ℕ → Held → Held
 with_parts kind parts i held other x = is_kind other kind && is_held parts i x || held other x
 
 -- the item is of the place with the number, and has what is held of it
-pub record IsItemWith (number : ℕ) (head : Head) (held : Held) (item : Item) : Type 0 where
+pub record IsItemWith (number : ℕ) (reading : Reading) (held : Held) (item : Item) : Type 0 where
   pub place : item.place ≡ number
-  pub read : item.read_version ≡ head.read_version
-  pub has_reads : item.has_reads ≡ head.has_reads
+  pub read : item.read_version ≡ reading.read_version
+  pub has_reads : item.has_reads ≡ reading.has_reads
   pub reads : (x : Point) → in_set item.reads x ≡ held Reads x
   pub writes : (x : Point) → in_set item.writes x ≡ held Writes x
 
 -- and something is
-pub record IsItemHolding (number : ℕ) (head : Head) (held : Held) (item : Item) : Type 0 where
-  pub has : IsItemWith number head held item
+pub record IsItemHolding (number : ℕ) (reading : Reading) (held : Held) (item : Item) : Type 0 where
+  pub has : IsItemWith number reading held item
   pub some : (kind : Kind) × (x : Point) × (held kind x ≡ true)
 
 -- the place's item, none as long as nothing is held of it
-abbrev pub IsItemSoFar : ℕ → Head → Held → Option Item → Type 0
-IsItemSoFar number head held item =
-    MatchOption item ((kind : Kind) (x : Point) → held kind x ≡ false) (IsItemHolding number head held)
+abbrev pub IsItemSoFar : ℕ → Reading → Held → Option Item → Type 0
+IsItemSoFar number reading held item =
+    MatchOption item ((kind : Kind) (x : Point) → held kind x ≡ false) (IsItemHolding number reading held)
 
 -- the items are those from before the place, and then its item so far
-abbrev pub EndsWithItem : ℕ → Head → Held → List Item → List Item → Type 0
-EndsWithItem number head held before items =
-    (item : Option Item) × (items ≡ before ++ option_to_list item) × IsItemSoFar number head held item
+abbrev pub EndsWithItem : ℕ → Reading → Held → List Item → List Item → Type 0
+EndsWithItem number reading held before items =
+    (item : Option Item) × (items ≡ before ++ option_to_list item) × IsItemSoFar number reading held item
 
 -- the item is of an earlier place
 abbrev pub IsBelow : ℕ → Item → Type 0

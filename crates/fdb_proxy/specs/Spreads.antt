@@ -17,8 +17,8 @@ pub record IsOwned (resolvers : ℕ) (spread : Spread) : Type 0 where
 
 -- the parts give each resolver what it is sent of the place
 pub record IsSpreadOf (splits : List Point) (place : Place) (spread : Spread) : Type 0 where
-  pub read : spread.head.read_version ≡ place.transaction.read
-  pub has_reads : spread.head.has_reads ≡ has_points place.transaction.reads
+  pub read : spread.reading.read_version ≡ place.transaction.read
+  pub has_reads : spread.reading.has_reads ≡ has_points place.transaction.reads
   pub reads : (i : ℕ) (x : Point) → is_held spread.reads i x ≡ part_reads splits i place x
   pub writes : (i : ℕ) (x : Point) → is_held spread.writes i x ≡ part_writes splits i place x
 

@@ -3,7 +3,7 @@ use Rattle.std.specs.Prelude.{◌≡◌, ◌≤◌, ◌-◌, ℕ, suc, false, no
 use Rattle.fdb_keys.specs.Points.{Point}
 use Rattle.fdb_txn.specs.declared.entry.Entry.{Entry}
 use Rattle.fdb_txn.specs.book.Transactions.{Transaction}
-use Rattle.fdb_txn.specs.book.Book.{Stamped, Place, Seen, add_places, add_entry}
+use Rattle.fdb_txn.specs.book.Book.{Head, Place, Seen, head_of, add_places, add_entry}
 use Rattle.fdb_txn.specs.book.History.{IsHistory}
 use Rattle.fdb_txn.specs.rules.Owners.{window}
 use Rattle.fdb_txn.specs.rules.Resolvers.{IsStateOf}
@@ -12,20 +12,20 @@ use Rattle.fdb_resolver.specs.declared.verdict.Verdict.{Verdict}
 use Rattle.fdb_resolver.specs.Rule.{AreVerdicts, versions_after}
 use Rattle.fdb_proxy.specs.Deciding.{Said, outcomes_by}
 use Rattle.fdb_proxy.specs.Parting.{AreItems}
-use Rattle.fdb_proxy.specs.Verdicts.{verdicts_from, asks_about, outcomes_from, moves_through, verdicts_on, outcomes_on}
+use Rattle.fdb_proxy.specs.Verdicts.{verdicts_from, asks_about, outcomes_from, verdicts_on, outcomes_on}
 
 -- What a resolver says of its items of a batch, by a state that answers from a floor on that isn't above the begin of
 -- the window, is what the rule over the book says; and the versions after the items are again such a state, of the
 -- batch's places after the earlier ones.
 abbrev pub BatchesAreJudgedByTheRule : Type 0
 BatchesAreJudgedByTheRule =
-    (splits : List Point) (i version : ℕ) (moves : List Stamped) (batch : List Transaction) (earlier : List Place)
+    (splits : List Point) (head : Head) (i : ℕ) (batch : List Transaction) (earlier : List Place)
     (p : ℕ) (items : List Item) (answers : List (ℕ × Verdict)) (floor : ℕ) (f : Point → ℕ)
-    → IsHistory (suc (length splits)) (add_places version moves batch earlier)
-    → IsStateOf splits i earlier floor f → floor ≤ version - window
-    → AreItems splits moves i version p batch items → AreVerdicts version f items answers
-    → (answers ≡ verdicts_from splits version moves i batch earlier p)
-    × IsStateOf splits i (add_places version moves batch earlier) floor (versions_after version f items answers)
+    → IsHistory (suc (length splits)) (add_places head p batch earlier)
+    → IsStateOf splits i earlier floor f → floor ≤ head.version - window
+    → AreItems splits head i p batch items → AreVerdicts head.version f items answers
+    → (answers ≡ verdicts_from splits head i batch earlier p)
+    × IsStateOf splits i (add_places head p batch earlier) floor (versions_after head.version f items answers)
 
 -- The same of an entry, after what was seen before it.
 abbrev pub EntriesAreJudgedByTheRule : Type 0
@@ -34,7 +34,7 @@ EntriesAreJudgedByTheRule =
     (floor : ℕ) (f : Point → ℕ)
     → IsHistory (suc (length splits)) (add_entry before entry).places
     → IsStateOf splits i before.places floor f → floor ≤ entry.version - window
-    → AreItems splits (moves_through before entry) i entry.version 0 entry.batch items
+    → AreItems splits (head_of before entry) i 0 entry.batch items
     → AreVerdicts entry.version f items answers
     → (answers ≡ verdicts_on splits i before entry)
     × IsStateOf splits i (add_entry before entry).places floor (versions_after entry.version f items answers)
@@ -42,31 +42,30 @@ EntriesAreJudgedByTheRule =
 -- A resolver has items of a batch exactly where it is asked about some place.
 abbrev pub ItemsWhereAsked : Type 0
 ItemsWhereAsked =
-    (splits : List Point) (moves : List Stamped) (i version p : ℕ) (batch : List Transaction) (items : List Item)
-    → AreItems splits moves i version p batch items
-    → not (length items == 0) ≡ asks_about splits version moves i batch
+    (splits : List Point) (head : Head) (i p : ℕ) (batch : List Transaction) (items : List Item)
+    → AreItems splits head i p batch items → not (length items == 0) ≡ asks_about splits head i p batch
 
 -- Of each resolver, the rule's verdicts on a batch came, or none did, and then it is asked about no place.
-pub record AreByTheRule (splits : List Point) (version : ℕ) (moves : List Stamped) (batch : List Transaction)
-    (earlier : List Place) (verdicts : List (Option Said)) : Type 0 where
+pub record AreByTheRule (splits : List Point) (head : Head) (batch : List Transaction) (earlier : List Place)
+    (verdicts : List (Option Said)) : Type 0 where
   pub count : length verdicts ≡ suc (length splits)
   pub came : (i : ℕ) (said : Said) → slice_get verdicts i ≡ Some (Some said)
-      → said ≡ verdicts_from splits version moves i batch earlier 0
-  pub silent : (i : ℕ) → slice_get verdicts i ≡ Some None → asks_about splits version moves i batch ≡ false
+      → said ≡ verdicts_from splits head i batch earlier 0
+  pub silent : (i : ℕ) → slice_get verdicts i ≡ Some None → asks_about splits head i 0 batch ≡ false
 
 -- Such verdicts decide each place of the batch as the rule over all resolvers does.
 abbrev pub BatchesAreDecidedByTheRule : Type 0
 BatchesAreDecidedByTheRule =
-    (splits : List Point) (version : ℕ) (moves : List Stamped) (batch : List Transaction) (earlier : List Place)
+    (splits : List Point) (head : Head) (batch : List Transaction) (earlier : List Place)
     (verdicts : List (Option Said))
-    → IsHistory (suc (length splits)) (add_places version moves batch earlier)
-    → AreByTheRule splits version moves batch earlier verdicts
-    → outcomes_by version verdicts (length batch) ≡ outcomes_from splits version moves batch earlier 0
+    → IsHistory (suc (length splits)) (add_places head 0 batch earlier)
+    → AreByTheRule splits head batch earlier verdicts
+    → outcomes_by head.version verdicts (length batch) ≡ outcomes_from splits head batch earlier 0
 
 -- The same of an entry, after what was seen before it.
 abbrev pub EntriesAreDecidedByTheRule : Type 0
 EntriesAreDecidedByTheRule =
     (splits : List Point) (before : Seen) (entry : Entry) (verdicts : List (Option Said))
     → IsHistory (suc (length splits)) (add_entry before entry).places
-    → AreByTheRule splits entry.version (moves_through before entry) entry.batch before.places verdicts
+    → AreByTheRule splits (head_of before entry) entry.batch before.places verdicts
     → outcomes_by entry.version verdicts (length entry.batch) ≡ outcomes_on splits before entry

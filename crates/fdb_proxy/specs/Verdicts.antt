@@ -1,9 +1,9 @@
 -- What resolvers and proxies say of the places of an entry.
-use Rattle.std.specs.Prelude.{ℕ, suc, Bool, ◌||◌, List, [], ◌∷◌, take, if◌then◌else◌}
+use Rattle.std.specs.Prelude.{ℕ, suc, Bool, ◌||◌, List, [], ◌∷◌, if◌then◌else◌}
 use Rattle.fdb_keys.specs.Points.{Point}
 use Rattle.fdb_txn.specs.declared.entry.Entry.{Entry}
 use Rattle.fdb_txn.specs.book.Transactions.{Transaction}
-use Rattle.fdb_txn.specs.book.Book.{Stamped, Place, Seen, placed, add_moves}
+use Rattle.fdb_txn.specs.book.Book.{Stamped, Head, Place, Seen, add_moves, head_of, placed}
 use Rattle.fdb_txn.specs.rules.Owners.{is_asked}
 use Rattle.fdb_txn.specs.rules.Admission.{is_fresh, admits, committed}
 use Rattle.fdb_resolver.specs.declared.verdict.Verdict.{Verdict}
@@ -23,26 +23,26 @@ outcome_at splits earlier place p =
     else outcome.Old
 
 -- one after another, the places of a batch from number p on, after the earlier ones
-module _ (splits : List Point) (version : ℕ) (moves : List Stamped) where
+module _ (splits : List Point) (head : Head) where
   -- what resolver i says of those that it is asked about
   abbrev pub verdicts_from : ℕ → List Transaction → List Place → ℕ → List (ℕ × Verdict)
   verdicts_from i [] earlier p = []
   verdicts_from i (t ∷ ts) earlier p =
-      let place = placed version moves t in
+      let place = placed head p t in
       if is_asked splits i place then (p, verdict_at splits i earlier place) ∷ verdicts_from i ts (place ∷ earlier)
       (suc p)
       else verdicts_from i ts (place ∷ earlier) (suc p)
 
   -- whether resolver i is asked about any
-  abbrev pub asks_about : ℕ → List Transaction → Bool
-  asks_about i [] = Rattle.std.specs.Prelude.false
-  asks_about i (t ∷ ts) = is_asked splits i (placed version moves t) || asks_about i ts
+  abbrev pub asks_about : ℕ → ℕ → List Transaction → Bool
+  asks_about i p [] = Rattle.std.specs.Prelude.false
+  asks_about i p (t ∷ ts) = is_asked splits i (placed head p t) || asks_about i (suc p) ts
 
   -- what becomes of each
   abbrev pub outcomes_from : List Transaction → List Place → ℕ → List Outcome
   outcomes_from [] earlier p = []
   outcomes_from (t ∷ ts) earlier p =
-      let place = placed version moves t in
+      let place = placed head p t in
       outcome_at splits earlier place p ∷ outcomes_from ts (place ∷ earlier) (suc p)
 
 -- the moves through an entry, after what was seen before it
@@ -51,14 +51,12 @@ moves_through before entry = add_moves entry.version entry.moves before.moves
 
 -- resolver i's verdicts on an entry, by place
 abbrev pub verdicts_on : List Point → ℕ → Seen → Entry → List (ℕ × Verdict)
-verdicts_on splits i before entry = verdicts_from splits entry.version (moves_through before entry) i entry.batch
-    before.places 0
+verdicts_on splits i before entry = verdicts_from splits (head_of before entry) i entry.batch before.places 0
 
 -- resolver i is asked about some place of the entry
 abbrev pub is_needed : List Point → ℕ → Seen → Entry → Bool
-is_needed splits i before entry = asks_about splits entry.version (moves_through before entry) i entry.batch
+is_needed splits i before entry = asks_about splits (head_of before entry) i 0 entry.batch
 
 -- what becomes of the places of an entry
 abbrev pub outcomes_on : List Point → Seen → Entry → List Outcome
-outcomes_on splits before entry = outcomes_from splits entry.version (moves_through before entry) entry.batch
-    before.places 0
+outcomes_on splits before entry = outcomes_from splits (head_of before entry) entry.batch before.places 0

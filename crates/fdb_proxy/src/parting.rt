@@ -6,7 +6,7 @@ ghost use Rattle.std.specs.List.{AllByRecursion};
 ghost use Rattle.fdb_keys.specs.Answers.{Answers};
 ghost use Rattle.fdb_keys.specs.Points.{Point};
 ghost use Rattle.fdb_keys.specs.Ranges.{in_set};
-ghost use Rattle.fdb_txn.specs.book.Book.{Stamped, Place, placed};
+ghost use Rattle.fdb_txn.specs.book.Book.{Stamped, Place, head_at, placed};
 ghost use Rattle.fdb_txn.specs.rules.Admission.{has_points};
 ghost use Rattle.fdb_txn.specs.rules.Owners.{window};
 ghost use Rattle.fdb_owners.specs.Ownership.{resolvers_of};
@@ -33,7 +33,7 @@ enum Kind {
 
 // What each resolver that is asked about a transaction is told of its reads.
 #[derive(Clone, Copy)]
-struct Head {
+struct Reading {
     read_version: u64,
     has_reads: bool,
 }
@@ -41,7 +41,7 @@ struct Head {
 // A transaction's reads and writes, in parts of the resolvers that are asked about them.
 #[derive(Drop)]
 struct Spread {
-    head: Head,
+    reading: Reading,
     reads: Items<Owned>,
     writes: Items<Owned>,
 }
@@ -58,19 +58,20 @@ fn spread_txn(owners: &Owners, version: u64, txn: &Sealed) -> Result<Spread, Ref
     requires learnt { owners.now.last ≤ version }
     requires kept { owners.now.floor ≤ version - window }
     ensures owned { IfOk result (IsOwned (resolvers_of owners.now)) }
-    ensures spread { Answers result None (λ spread. (moves : List Stamped) → AgreesWith owners.now moves
-        → IsSpreadOf owners.now.splits (placed version moves txn.now) spread) }
+    ensures spread { Answers result None (λ spread. (moves : List Stamped) (number : ℕ)
+        → AgreesWith owners.now moves
+        → IsSpreadOf owners.now.splits (placed (head_at version moves) number txn.now) spread) }
 {
     let read_version = txn.read_version();
     let from = read_version.max(version.saturating_sub(WINDOW));
     let reads = owners.readers_of(txn.reads(), from, version)?;
     let writes = owners.writers_of(txn.writes())?;
-    let head = Head {
+    let reading = Reading {
         read_version,
         has_reads: has_points(txn.reads()),
     };
     Ok(Spread {
-        head,
+        reading,
         reads,
         writes,
     })
@@ -87,18 +88,23 @@ fn ends_at(items: &[Item], place: u32) -> bool
 }
 
 // Where the place's item stands among the resolver's, which end with it. It is made where it isn't there yet.
-fn open_item(alloc: Global, items: &mut Vec<Item>, place: u32, head: Head) -> Result<usize, Refusal>
+fn open_item(
+    alloc: Global,
+    items: &mut Vec<Item>,
+    place: u32,
+    reading: Reading,
+) -> Result<usize, Refusal>
     ensures within { IfOk result (λ index. index < length items.new.items) }
     ensures answers { Answers result None (λ index. (held : Held) (before : List Item)
-        → AllByRecursion (IsBelow place) before → EndsWithItem place head held before items.old.items
+        → AllByRecursion (IsBelow place) before → EndsWithItem place reading held before items.old.items
         → (item : Item) × (items.new.items ≡ before ++ item ∷ []) × (index ≡ length before)
-        × IsItemWith place head held item) }
+        × IsItemWith place reading held item) }
 {
     if !ends_at(items.as_slice(), place) {
         items.push(Item {
             place,
-            read_version: head.read_version,
-            has_reads: head.has_reads,
+            read_version: reading.read_version,
+            has_reads: reading.has_reads,
             reads: RangeSet::new(alloc),
             writes: RangeSet::new(alloc),
         })?;
@@ -120,9 +126,9 @@ fn join_part(set: &mut RangeSet, part: Owned) -> Result<(), Refusal>
 
 // The part's keys come to those of the item.
 fn add_to_item(item: &mut Item, kind: Kind, part: Owned) -> Result<(), Refusal>
-    ensures { Answers result None (λ _. (place : ℕ) (head : Head) (held : Held)
-        → IsItemWith place head held item.old
-        → IsItemWith place head (with_ranges kind part.ranges held) item.new) }
+    ensures { Answers result None (λ _. (place : ℕ) (reading : Reading) (held : Held)
+        → IsItemWith place reading held item.old
+        → IsItemWith place reading (with_ranges kind part.ranges held) item.new) }
 {
     match kind {
         Kind::Reads => join_part(&mut item.reads, part),
@@ -135,16 +141,16 @@ fn hold(
     alloc: Global,
     items: &mut Vec<Item>,
     place: u32,
-    head: Head,
+    reading: Reading,
     kind: Kind,
     part: Owned,
 ) -> Result<(), Refusal>
     requires some { has_points part.ranges ≡ true }
     ensures { Answers result None (λ _. (held : Held) (before : List Item)
-        → AllByRecursion (IsBelow place) before → EndsWithItem place head held before items.old.items
-        → EndsWithItem place head (with_ranges kind part.ranges held) before items.new.items) }
+        → AllByRecursion (IsBelow place) before → EndsWithItem place reading held before items.old.items
+        → EndsWithItem place reading (with_ranges kind part.ranges held) before items.new.items) }
 {
-    let index = open_item(alloc, items, place, head)?;
+    let index = open_item(alloc, items, place, reading)?;
     add_to_item(&mut items[index], kind, part)?;
     Ok(())
 }
@@ -154,7 +160,7 @@ fn hold_all(
     alloc: Global,
     lists: &mut [Vec<Item>],
     place: u32,
-    head: Head,
+    reading: Reading,
     kind: Kind,
     parts: Items<Owned>,
 ) -> Result<(), Refusal>
@@ -162,15 +168,15 @@ fn hold_all(
     ensures count { length lists.new ≡ length lists.old }
     ensures answers { Answers result None (λ _. (i : ℕ) (held : Held) (before : List Item)
         → i < length lists.old → AllByRecursion (IsBelow place) before
-        → EndsWithItem place head held before (items_at lists.old i)
-        → EndsWithItem place head (with_parts kind parts i held) before (items_at lists.new i)) }
+        → EndsWithItem place reading held before (items_at lists.old i)
+        → EndsWithItem place reading (with_parts kind parts i held) before (items_at lists.new i)) }
 {
     for part in parts.into_vec() {
         hold(
             alloc,
             &mut lists[part.resolver as usize],
             place,
-            head,
+            reading,
             kind,
             part,
         )?;
@@ -196,12 +202,12 @@ fn hold_place(
         → IsItemIfAsked splits i place of item)) }
 {
     let Spread {
-        head,
+        reading,
         reads,
         writes,
     } = spread;
-    hold_all(alloc, lists, place, head, Kind::Reads, reads)?;
-    hold_all(alloc, lists, place, head, Kind::Writes, writes)?;
+    hold_all(alloc, lists, place, reading, Kind::Reads, reads)?;
+    hold_all(alloc, lists, place, reading, Kind::Writes, writes)?;
     Ok(())
 }
 
@@ -232,7 +238,7 @@ fn items_of(
     ensures few { IfOk result (λ lists. length lists.items < 2 ^ 32) }
     ensures items { Answers result None (λ lists. (length lists.items ≡ resolvers_of owners.now)
         × ((i : ℕ) → i < resolvers_of owners.now → (moves : List Stamped) → AgreesWith owners.now moves
-        → AreItems owners.now.splits moves i version 0 batch.now (items_at lists.items i))) }
+        → AreItems owners.now.splits (head_at version moves) i 0 batch.now (items_at lists.items i))) }
 {
     let mut lists = no_items(alloc, owners.resolvers())?;
     for (place, txn) in batch.iter().enumerate() {

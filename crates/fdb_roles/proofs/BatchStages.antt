@@ -9,7 +9,7 @@ use Rattle.std.proofs.lemmas.List.{length-append, length-set, length-replicate}
 use Rattle.std.proofs.lemmas.Option.{same_Some, slice_get_within}
 use Rattle.fdb_keys.specs.Points.{Point}
 use Rattle.fdb_txn.specs.declared.entry.Entry.{Entry}
-use Rattle.fdb_txn.specs.book.Book.{Seen, add_entry, seen_of, seen_before}
+use Rattle.fdb_txn.specs.book.Book.{Seen, head_of, add_entry, seen_of, seen_before}
 use Rattle.fdb_txn.specs.book.History.{AreEntries, IsHistory}
 use Rattle.fdb_txn.specs.book.Transactions.{Transaction}
 use Rattle.fdb_txn.proofs.Exports.{places_are_history, seen_of-push}
@@ -214,7 +214,7 @@ module _ (splits : List Point) (book : List Entry) (i : ℕ) (entry : Entry) (th
 
   -- a part asks where its resolver is asked about some place
   pub asked : (r : ℕ) (part : Part) → slice_get batch.parts r ≡ Some part → asks part ≡ is_needed splits r before entry
-  asked r part at = items_where_asked splits (moves_through before entry) r entry.version 0 entry.batch part.items
+  asked r part at = items_where_asked splits (head_of before entry) r 0 entry.batch part.items
       (is.parts.each r part at).items
 
   history : AreEntries (suc (length splits)) 0 book → IsHistory (suc (length splits)) (add_entry before entry).places
@@ -224,7 +224,7 @@ module _ (splits : List Point) (book : List Entry) (i : ℕ) (entry : Entry) (th
       (entries-take (suc (length splits)) 0 (suc i) book entries))
 
   by-the-rule : first_missing 0 batch.parts batch.verdicts ≡ None
-      → AreByTheRule splits entry.version (moves_through before entry) entry.batch before.places batch.verdicts
+      → AreByTheRule splits (head_of before entry) entry.batch before.places batch.verdicts
   by-the-rule none = record {
     count = is.count;
     came = is.came;

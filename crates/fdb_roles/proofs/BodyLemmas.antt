@@ -4,25 +4,23 @@ use Rattle.std.proofs.Common.{arith}
 use Rattle.fdb_keys.specs.Points.{Point}
 use Rattle.fdb_txn.specs.declared.entry.Entry.{Entry}
 use Rattle.fdb_txn.specs.book.Transactions.{Transaction}
-use Rattle.fdb_txn.specs.book.Book.{Stamped, Place, Seen, placed}
+use Rattle.fdb_txn.specs.book.Book.{Head, Place, Seen, head_of, placed}
 use Rattle.fdb_proxy.specs.Logging.{answers_by}
 use Rattle.fdb_proxy.specs.declared.outcome.Outcome.{Outcome}
-use Rattle.fdb_proxy.specs.declared.outcome.Outcome.TheVariants as outcome
-use Rattle.fdb_proxy.specs.Verdicts.{outcomes_from, moves_through, outcomes_on}
+use Rattle.fdb_proxy.specs.Verdicts.{outcomes_from, outcomes_on}
 
 -- the same as `length-outcomes_on`, from place p on
-length-outcomes_from : (splits : List Point) (version : ℕ) (moves : List Stamped) (batch : List Transaction)
-    (earlier : List Place) (p : ℕ)
-    → length (outcomes_from splits version moves batch earlier p) ≡ length batch
-length-outcomes_from splits version moves [] earlier p = refl
-length-outcomes_from splits version moves (t ∷ ts) earlier p = ap suc
-    (length-outcomes_from splits version moves ts (placed version moves t ∷ earlier) (suc p))
+length-outcomes_from : (splits : List Point) (head : Head) (batch : List Transaction) (earlier : List Place) (p : ℕ)
+    → length (outcomes_from splits head batch earlier p) ≡ length batch
+length-outcomes_from splits head [] earlier p = refl
+length-outcomes_from splits head (t ∷ ts) earlier p =
+    ap suc (length-outcomes_from splits head ts (placed head p t ∷ earlier) (suc p))
 
 -- each place has one outcome
 pub length-outcomes_on : (splits : List Point) (before : Seen) (entry : Entry)
     → length (outcomes_on splits before entry) ≡ length entry.batch
-length-outcomes_on splits before entry = length-outcomes_from splits entry.version (moves_through before entry)
-    entry.batch before.places 0
+length-outcomes_on splits before entry =
+    length-outcomes_from splits (head_of before entry) entry.batch before.places 0
 
 -- there is an answer for each transaction that has an outcome
 pub length-answers : (batch : List Transaction) (outcomes : List Outcome) → length outcomes ≡ length batch

@@ -4,57 +4,57 @@ use Rattle.std.proofs.Common.{◌↔◌, Bool, true, false, ◌&&◌, if◌then�
 use Rattle.std.specs.List.{slice_get}
 use Rattle.std.proofs.lemmas.Option.{same_Some}
 use Rattle.fdb_keys.specs.Points.{Point}
-use Rattle.fdb_txn.specs.book.Book.{Stamped, Place, placed, Seen}
+use Rattle.fdb_txn.specs.book.Book.{Head, Place, Seen, head_of, placed}
 use Rattle.fdb_txn.specs.book.Places.{place_in, place_of}
 use Rattle.fdb_txn.specs.book.Transactions.{Transaction}
 use Rattle.fdb_txn.specs.rules.Admission.{is_fresh, no_conflict, admits, all_below}
 use Rattle.fdb_txn.specs.declared.entry.Entry.{Entry}
-use Rattle.fdb_proxy.specs.Verdicts.{outcomes_from, outcome_at, moves_through, outcomes_on}
+use Rattle.fdb_proxy.specs.Verdicts.{outcomes_from, outcome_at, outcomes_on}
 use Rattle.fdb_proxy.specs.declared.outcome.Outcome.TheVariants as outcome
 use Rattle.fdb_proxy.specs.declared.outcome.Outcome.{Outcome}
 use Rattle.fdb_roles.specs.Outcomes.{IsByRule}
 
 -- a place of a batch is that of a transaction
-pub in-batch : (version : ℕ) (moves : List Stamped) (batch : List Transaction) (earlier : List Place) (p : ℕ)
+pub in-batch : (head : Head) (n : ℕ) (batch : List Transaction) (earlier : List Place) (p : ℕ)
     (there : Place × List Place)
-    → place_in version moves batch earlier p ≡ Some there → (t : Transaction) × (slice_get batch p ≡ Some t)
-in-batch version moves [] earlier p there at = cc
-in-batch version moves (t ∷ batch) earlier zero there at = (t, refl)
-in-batch version moves (t ∷ batch) earlier (suc p) there at =
-    in-batch version moves batch (placed version moves t ∷ earlier) p there at
+    → place_in head n batch earlier p ≡ Some there → (t : Transaction) × (slice_get batch p ≡ Some t)
+in-batch head n [] earlier p there at = cc
+in-batch head n (t ∷ batch) earlier zero there at = (t, refl)
+in-batch head n (t ∷ batch) earlier (suc p) there at =
+    in-batch head (suc n) batch (placed head n t ∷ earlier) p there at
 
 -- the place of a transaction of a batch, with its outcome
-pub place-found : (splits : List Point) (version : ℕ) (moves : List Stamped) (batch : List Transaction)
-    (earlier : List Place)
+pub place-found : (splits : List Point) (head : Head) (batch : List Transaction) (earlier : List Place)
     (n p : ℕ) (t : Transaction) → slice_get batch p ≡ Some t
-    → (before : List Place) × (place_in version moves batch earlier p ≡ Some (placed version moves t, before))
-    × (slice_get (outcomes_from splits version moves batch earlier n) p
-    ≡ Some (outcome_at splits before (placed version moves t) (n + p)))
-place-found splits version moves [] earlier n p t there = cc
-place-found splits version moves (first ∷ batch) earlier n zero t there =
+    → (before : List Place) × (place_in head n batch earlier p ≡ Some (placed head (n + p) t, before))
+    × (slice_get (outcomes_from splits head batch earlier n) p
+    ≡ Some (outcome_at splits before (placed head (n + p) t) (n + p)))
+place-found splits head [] earlier n p t there = cc
+place-found splits head (first ∷ batch) earlier n zero t there =
     let same : first ≡ t = cc in
     let number : n ≡ n + 0 = omega arith in (
       earlier,
-      ap (λ (one : Transaction). Some (placed version moves one, earlier)) same,
-      ap (λ (one : Transaction). Some (outcome_at splits earlier (placed version moves one) n)) same
-          ∙ ap (λ (k : ℕ). Some (outcome_at splits earlier (placed version moves t) k)) number,
+      ap (λ (one : Transaction). Some (placed head n one, earlier)) same
+          ∙ ap (λ (k : ℕ). Some (placed head k t, earlier)) number,
+      ap (λ (one : Transaction). Some (outcome_at splits earlier (placed head n one) n)) same
+          ∙ ap (λ (k : ℕ). Some (outcome_at splits earlier (placed head k t) k)) number,
     )
-place-found splits version moves (first ∷ batch) earlier n (suc p) t there =
+place-found splits head (first ∷ batch) earlier n (suc p) t there =
     let number : suc n + p ≡ n + suc p = omega arith in
-    let found = place-found splits version moves batch (placed version moves first ∷ earlier) (suc n) p t there in (
+    let found = place-found splits head batch (placed head n first ∷ earlier) (suc n) p t there in (
       found.0,
-      found.1,
-      found.2 ∙ ap (λ (k : ℕ). Some (outcome_at splits found.0 (placed version moves t) k)) number,
+      found.1 ∙ ap (λ (k : ℕ). Some (placed head k t, found.0)) number,
+      found.2 ∙ ap (λ (k : ℕ). Some (outcome_at splits found.0 (placed head k t) k)) number,
     )
 
 -- there is a place for each transaction of a batch, and no other
-pub place-there : (version : ℕ) (moves : List Stamped) (batch : List Transaction) (earlier : List Place) (p : ℕ)
+pub place-there : (head : Head) (n : ℕ) (batch : List Transaction) (earlier : List Place) (p : ℕ)
     → p < length batch
-    → (there : Place × List Place) × (place_in version moves batch earlier p ≡ Some there)
-place-there version moves [] earlier p within = absurd (omega (arith, within))
-place-there version moves (t ∷ ts) earlier zero within = ((placed version moves t, earlier), refl)
-place-there version moves (t ∷ ts) earlier (suc p) within = place-there version moves ts
-    (placed version moves t ∷ earlier) p (omega (arith, within))
+    → (there : Place × List Place) × (place_in head n batch earlier p ≡ Some there)
+place-there head n [] earlier p within = absurd (omega (arith, within))
+place-there head n (t ∷ ts) earlier zero within = ((placed head n t, earlier), refl)
+place-there head n (t ∷ ts) earlier (suc p) within =
+    place-there head (suc n) ts (placed head n t ∷ earlier) p (omega (arith, within))
 
 -- the outcome at a place is the rule's
 pub outcome-by-rule : (splits : List Point) (earlier : List Place) (place : Place) (p : ℕ)
@@ -83,10 +83,10 @@ pub place-by-rule : (splits : List Point) (before : Seen) (entry : Entry) (p : �
     → (became : Outcome) × (slice_get (outcomes_on splits before entry) p ≡ Some became)
     × (slice_get entry.batch p ≡ Some there.0.transaction) × IsByRule splits there p became
 place-by-rule splits before entry p there at =
-    let transaction = in-batch entry.version (moves_through before entry) entry.batch before.places p there at in
-    let found = place-found splits entry.version (moves_through before entry) entry.batch before.places 0 p
-    transaction.0 transaction.1 in
-    let place : Place = placed entry.version (moves_through before entry) transaction.0 in
+    let head = head_of before entry in
+    let transaction = in-batch head 0 entry.batch before.places p there at in
+    let found = place-found splits head entry.batch before.places 0 p transaction.0 transaction.1 in
+    let place : Place = placed head (0 + p) transaction.0 in
     let same : (place, found.0) ≡ there = same_Some (place, found.0) there (sym found.1 ∙ at) in
     let number : 0 + p ≡ p = omega arith in (
       outcome_at splits found.0 place p,

@@ -12,7 +12,7 @@ use Rattle.fdb_interval.specs.Versions.{version_at}
 use Rattle.fdb_txn.specs.declared.entry.Entry.{Entry}
 use Rattle.fdb_txn.specs.declared.entry.Move.{Move}
 use Rattle.fdb_txn.specs.book.Transactions.{Transaction, NamesWrites}
-use Rattle.fdb_txn.specs.book.Book.{Stamped, Place, Seen, add_entry, seen_of, last_version}
+use Rattle.fdb_txn.specs.book.Book.{Stamped, Head, Place, Seen, head_at, add_entry, seen_of, last_version}
 use Rattle.fdb_txn.specs.book.History.{IsHistory, AreEntries}
 use Rattle.fdb_txn.specs.rules.Owners.{window}
 use Rattle.fdb_txn.specs.rules.Admission.{has_points}
@@ -36,8 +36,8 @@ use Rattle.fdb_roles.proofs.AllLemmas.{within-item}
 use Rattle.fdb_roles.proofs.BookLemmas.{last-push}
 
 -- what is sent of a batch from place p on
-module _ (splits : List Point) (moves : List Stamped) (i version : ℕ) where
-  items-after : (p : ℕ) (batch : List Transaction) (items : List Item) → AreItems splits moves i version p batch items
+module _ (splits : List Point) (head : Head) (i : ℕ) where
+  items-after : (p : ℕ) (batch : List Transaction) (items : List Item) → AreItems splits head i p batch items
       → (q : ℕ) → q < p → AllByRecursion (λ (item : Item). q < item.place) items
   items-after p [] items are q lesser = subst (AllByRecursion (λ (item : Item). q < item.place)) (sym are) tt
   items-after p (t ∷ ts) items are q lesser = ⊎_elim
@@ -47,7 +47,7 @@ module _ (splits : List Point) (moves : List Stamped) (i version : ℕ) where
       (λ unasked. items-after (suc p) ts items unasked.1 q (omega (arith, lesser)))
       are
 
-  items-rising : (p : ℕ) (batch : List Transaction) (items : List Item) → AreItems splits moves i version p batch items
+  items-rising : (p : ℕ) (batch : List Transaction) (items : List Item) → AreItems splits head i p batch items
       → AreRising items
   items-rising p [] items are = subst AreRising (sym are) tt
   items-rising p (t ∷ ts) items are = ⊎_elim
@@ -62,7 +62,7 @@ module _ (splits : List Point) (moves : List Stamped) (i version : ℕ) where
   abbrev KnowsReads : Item → Type 0
   KnowsReads item = has_points item.reads ≡ true → item.has_reads ≡ true
 
-  items-reads : (p : ℕ) (batch : List Transaction) (items : List Item) → AreItems splits moves i version p batch items
+  items-reads : (p : ℕ) (batch : List Transaction) (items : List Item) → AreItems splits head i p batch items
       → AllByRecursion KnowsReads items
   items-reads p [] items are = subst (AllByRecursion KnowsReads) (sym are) tt
   items-reads p (t ∷ ts) items are = ⊎_elim
@@ -90,8 +90,8 @@ pub is-part : (splits : List Point) (moves : List Stamped) (position : Position)
     (part : Part) → position.prev < position.version → IsPartOf splits moves position batch i part → IsPart part
 is-part splits moves position batch i part later of = record {
   later = let prev = of.prev in let version = of.version in omega (arith, later, prev, version);
-  rising = items-rising splits moves i position.version 0 batch part.items of.items;
-  reads = items-reads splits moves i position.version 0 batch part.items of.items;
+  rising = items-rising splits (head_at position.version moves) i 0 batch part.items of.items;
+  reads = items-reads splits (head_at position.version moves) i 0 batch part.items of.items;
 }
 
 -- what is sent of an entry are parts

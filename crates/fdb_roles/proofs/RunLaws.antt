@@ -9,12 +9,11 @@ use Rattle.fdb_keys.specs.Points.{Point}
 use Rattle.fdb_keys.proofs.Exports.{all-weaken}
 use Rattle.fdb_txn.specs.declared.entry.Entry.{Entry}
 use Rattle.fdb_txn.specs.book.Transactions.{Transaction}
-use Rattle.fdb_txn.specs.book.Book.{Stamped, Place, Seen, nothing, placed, add_places, add_entry, seen_of, last_version}
-use Rattle.fdb_txn.specs.book.Book.{seen_before}
+use Rattle.fdb_txn.specs.book.Book.{Head, Place, Seen, nothing, head_of, placed, add_places, add_entry, seen_of}
+use Rattle.fdb_txn.specs.book.Book.{last_version, seen_before}
 use Rattle.fdb_txn.specs.rules.SerialMap.{serial_map, up_to, serial_map_at}
 use Rattle.fdb_txn.specs.book.History.{AreLinked, AreEntries, ReadsBelow}
 use Rattle.fdb_txn.proofs.Exports.{AtMost, add_places-newer, up_to-above, up_to-all, at_most-more}
-use Rattle.fdb_proxy.specs.Verdicts.{moves_through}
 use Rattle.fdb_roles.specs.Entries.{IsRising}
 
 -- each entry's version is greater than that of the entry before it, and the first one's greater than the least
@@ -106,19 +105,19 @@ entries-below resolvers least (entry ∷ book) entries = (
 )
 
 -- places of a version at most v come in
-at_most-places : (v version : ℕ) (moves : List Stamped) (batch : List Transaction) (earlier : List Place) → version ≤ v
+at_most-places : (v : ℕ) (head : Head) (p : ℕ) (batch : List Transaction) (earlier : List Place) → head.version ≤ v
     → AtMost v earlier
-    → AtMost v (add_places version moves batch earlier)
-at_most-places v version moves [] earlier reached at_most = at_most
-at_most-places v version moves (t ∷ ts) earlier reached at_most = at_most-places v version moves ts
-    (placed version moves t ∷ earlier) reached (reached, at_most)
+    → AtMost v (add_places head p batch earlier)
+at_most-places v head p [] earlier reached at_most = at_most
+at_most-places v head p (t ∷ ts) earlier reached at_most =
+    at_most-places v head (suc p) ts (placed head p t ∷ earlier) reached (reached, at_most)
 
 -- the places of an entry of a greater version are left out
-up_to-entry : (v version : ℕ) (moves : List Stamped) (batch : List Transaction) (earlier : List Place) → v < version
-    → up_to v (add_places version moves batch earlier) ≡ up_to v earlier
-up_to-entry v version moves batch earlier above =
-    let added = add_places-newer version moves batch earlier in
-    ap (up_to v) added.1 ∙ up_to-above v version added.0 earlier above added.2
+up_to-entry : (v : ℕ) (seen : Seen) (entry : Entry) → v < entry.version
+    → up_to v (add_entry seen entry).places ≡ up_to v seen.places
+up_to-entry v seen entry above =
+    let added = add_places-newer (head_of seen entry) 0 entry.batch seen.places in
+    ap (up_to v) added.1 ∙ up_to-above v entry.version added.0 seen.places above added.2
 
 -- and so are all after a version that v doesn't pass
 up_to-after : (v least : ℕ) (seen : Seen) (book : List Entry) → v ≤ least → RisesFrom least book
@@ -126,7 +125,7 @@ up_to-after : (v least : ℕ) (seen : Seen) (book : List Entry) → v ≤ least 
 up_to-after v least seen [] reached rising = refl
 up_to-after v least seen (entry ∷ book) reached rising =
     up_to-after v entry.version (add_entry seen entry) book (omega (arith, rising.0)) rising.1
-    ∙ up_to-entry v entry.version (moves_through seen entry) entry.batch seen.places (omega (arith, rising.0))
+    ∙ up_to-entry v seen entry (omega (arith, rising.0))
 
 -- up to the version of the last of the first entries, the map is that of these alone
 pub serial-front : (splits : List Point) (book : List Entry) → IsRising book → (n v : ℕ)
@@ -174,8 +173,7 @@ at_most-book : (least : ℕ) (seen : Seen) (book : List Entry) → AtMost least 
 at_most-book least seen [] at_most rising = at_most
 at_most-book least seen (entry ∷ book) at_most rising =
     at_most-book entry.version (add_entry seen entry) book
-    (at_most-places entry.version entry.version (moves_through seen entry) entry.batch seen.places
-    (le_refl entry.version)
+    (at_most-places entry.version (head_of seen entry) 0 entry.batch seen.places (le_refl entry.version)
     (at_most-more least entry.version seen.places (le_of_lt rising.0) at_most)) rising.1
 
 -- the entries of a rising book of which the first is above v are left out
@@ -186,7 +184,7 @@ up_to-later v least seen [] later rising = refl
 up_to-later v least seen (entry ∷ book) later rising =
     let above : v < entry.version = later entry refl in
     up_to-after v entry.version (add_entry seen entry) book (le_of_lt above) rising.1
-    ∙ up_to-entry v entry.version (moves_through seen entry) entry.batch seen.places above
+    ∙ up_to-entry v seen entry above
 
 -- the first one after a front
 first-drop : (n : ℕ) (book : List Entry) → slice_get (drop n book) 0 ≡ slice_get book n

@@ -12,7 +12,7 @@ use Rattle.fdb_keys.specs.declared.refusal.Refusal.{Refusal}
 use Rattle.fdb_keys.specs.declared.refusal.Refusal.TheVariants.{Failed}
 use Rattle.fdb_txn.specs.declared.entry.Entry.{Entry}
 use Rattle.fdb_txn.specs.declared.txn_id.TxnId.{TxnId}
-use Rattle.fdb_txn.specs.book.Book.{Seen, seen_before}
+use Rattle.fdb_txn.specs.book.Book.{Seen, head_of, seen_before}
 use Rattle.fdb_txn.specs.book.History.{AreEntries}
 use Rattle.fdb_txn.specs.book.Places.{place_of, place_at}
 use Rattle.fdb_txn.specs.book.Transactions.{Transaction}
@@ -169,8 +169,8 @@ module _ (config : Config) (front : List Entry) (i : ℕ) (entry : Entry) (last 
       let by_rule = answers_are_by_the_rule config.resolver_splits front i entry last.there in
       let within : p < length entry.batch = subst (λ (n : ℕ). p < n) (ap length is ∙ by_rule.each_once)
       (slice_get_within answers p answer there) in
-      let place = place-there entry.version (moves_through (seen_before front i) entry) entry.batch
-      (seen_before front i).places p within in
+      let place = place-there (head_of (seen_before front i) entry) 0 entry.batch (seen_before front i).places p within
+      in
       let at : place_at front i p ≡ Some place.0 = ap (place_of (seen_before front i) p) last.there ∙ place.1 in
       let told = by_rule.by_rule p place.0 at in
       let same : (place.0.0.transaction.id, told.0) ≡ answer = same_Some _ answer

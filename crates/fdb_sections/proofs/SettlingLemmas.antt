@@ -8,7 +8,7 @@ use Rattle.fdb_keys.specs.Points.{Point}
 use Rattle.fdb_keys.specs.declared.refusal.Refusal.{Refusal}
 use Rattle.fdb_keys.specs.declared.refusal.Refusal.TheVariants.{NotCommitted, TransactionTooOld}
 use Rattle.fdb_txn.specs.declared.entry.Entry.{Entry}
-use Rattle.fdb_txn.specs.book.Book.{Stamped, Place, Seen, placed, seen_of, last_version}
+use Rattle.fdb_txn.specs.book.Book.{Head, Place, Seen, head_of, placed, seen_of, last_version}
 use Rattle.fdb_txn.specs.book.History.{AreEntries, ReadsBelow}
 use Rattle.fdb_txn.specs.book.Once.{NoIdTwice}
 use Rattle.fdb_txn.specs.book.Places.{place_in, place_of, place_at}
@@ -29,14 +29,14 @@ use Rattle.fdb_sections.specs.Sessions.{IsOpenAt}
 use Rattle.fdb_sections.proofs.SessionLemmas.{reaches}
 
 -- a place has the version of its entry
-place-version : (version : ℕ) (moves : List Stamped) (batch : List Transaction) (earlier : List Place) (p : ℕ)
-    (found : Place × List Place) → place_in version moves batch earlier p ≡ Some found → found.0.version ≡ version
-place-version version moves [] earlier p found is = absurd (let wrong : None ≡ Some found = is in cc)
-place-version version moves (t ∷ ts) earlier zero found is =
-    let same : (placed version moves t, earlier) ≡ found = cc in
-    subst (λ (it : Place × List Place). it.0.version ≡ version) same refl
-place-version version moves (t ∷ ts) earlier (suc p) found is =
-    place-version version moves ts (placed version moves t ∷ earlier) p found is
+place-version : (head : Head) (n : ℕ) (batch : List Transaction) (earlier : List Place) (p : ℕ)
+    (found : Place × List Place) → place_in head n batch earlier p ≡ Some found → found.0.version ≡ head.version
+place-version head n [] earlier p found is = absurd (let wrong : None ≡ Some found = is in cc)
+place-version head n (t ∷ ts) earlier zero found is =
+    let same : (placed head n t, earlier) ≡ found = cc in
+    subst (λ (it : Place × List Place). it.0.version ≡ head.version) same refl
+place-version head n (t ∷ ts) earlier (suc p) found is =
+    place-version head (suc n) ts (placed head n t ∷ earlier) p found is
 
 -- a place is in an entry, whose version it has
 entry-of : (before : Seen) (p : ℕ) (next : Option Entry) (there : Place × List Place)
@@ -44,7 +44,7 @@ entry-of : (before : Seen) (p : ℕ) (next : Option Entry) (there : Place × Lis
     → (entry : Entry) × (next ≡ Some entry) × (there.0.version ≡ entry.version)
 entry-of before p None there is = absurd (let wrong : None ≡ Some there = is in cc)
 entry-of before p (Some entry) there is =
-    (entry, refl, place-version entry.version _ entry.batch before.places p there is)
+    (entry, refl, place-version (head_of before entry) 0 entry.batch before.places p there is)
 
 -- a place of a book stays where entries follow
 place-stays : (short long : List Entry) (n p : ℕ) → IsPrefix short long → n < length short

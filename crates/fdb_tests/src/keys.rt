@@ -461,10 +461,17 @@ fn is_written(alloc: Global, why: Refusal, text: &str) -> bool {
     }
 }
 
+// The code and the name of a refusal, and whether it is written as the text.
+fn told(alloc: Global, why: Refusal, text: &str) -> (u32, &'static str, bool) {
+    (why.code(), why.name(), is_written(alloc, why, text))
+}
+
 #[test]
 fn refusals_have_codes_and_texts(rt: HostRuntime) {
-    let why = Refusal::NotYet(5);
     let text = "something that comes before this, numbered 5, has not come yet";
-    let found = (why.code(), why.name(), is_written(rt.alloc(), why, text));
+    let found = told(rt.alloc(), Refusal::NotYet(5), text);
     same(&rt, found, (9002, "NotYet", true));
+    let text = "a versionstamped key is read before its commit";
+    let found = told(rt.alloc(), Refusal::AccessedUnreadable, text);
+    same(&rt, found, (1036, "AccessedUnreadable", true));
 }

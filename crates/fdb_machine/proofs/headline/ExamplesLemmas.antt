@@ -18,7 +18,7 @@ use Rattle.fdb_mutations.specs.declared.mutation.Mutation.TheVariants.{Clear}
 use Rattle.fdb_mutations.proofs.Exports.{no_values}
 use Rattle.fdb_txn.specs.declared.tag_msg.TagMsg.{TagMsg}
 use Rattle.fdb_txn.specs.book.Transactions.{Transaction}
-use Rattle.fdb_txn.specs.book.Book.{Place, placed}
+use Rattle.fdb_txn.specs.book.Book.{Place, head_at, placed}
 use Rattle.fdb_txn.specs.rules.SerialMap.{serial_map}
 use Rattle.fdb_txn.specs.rules.Splits.{piece}
 use Rattle.fdb_txn.specs.rules.Admission.{committed}
@@ -47,10 +47,10 @@ use Rattle.fdb_machine.specs.declared.step.Answered.TheVariants as answered
 
 -- the two places of the entry
 abbrev first : Place
-first = placed 100 [] (commit_request_of (reads_and_sets 0 None))
+first = placed (head_at 100 []) 0 (commit_request_of (reads_and_sets 0 None))
 
 abbrev second : Place
-second = placed 100 [] (commit_request_of (reads_and_sets 1 None))
+second = placed (head_at 100 []) 1 (commit_request_of (reads_and_sets 1 None))
 
 -- the empty map has nothing at a key
 nothing_there : get {X = List ℕ} {R = slice_cmp nat_cmp} empty (codes "a") ≡ None

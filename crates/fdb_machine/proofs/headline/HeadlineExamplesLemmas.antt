@@ -12,7 +12,7 @@ use Rattle.fdb_keys.specs.Insertion as insertion
 use Rattle.fdb_keys.specs.Ranges.{Range}
 use Rattle.fdb_mutations.specs.declared.mutation.Mutation.{Mutation}
 use Rattle.fdb_mutations.specs.declared.mutation.Mutation.TheVariants.{Set}
-use Rattle.fdb_txn.specs.book.Book.{Place, placed}
+use Rattle.fdb_txn.specs.book.Book.{Place, head_at, placed}
 use Rattle.fdb_txn.specs.book.Transactions.{Transaction}
 use Rattle.fdb_txn.specs.rules.Admission.{committed}
 use Rattle.fdb_storage.specs.Shards.{Shard}
@@ -36,7 +36,7 @@ use Rattle.fdb_machine.specs.machine.Sessions.{Idle, Asking, Waiting}
 
 -- the place of the first transaction in an entry at the version
 abbrev first_at : ℕ → Place
-first_at version = placed version [] (commit_request_of (reads_and_sets 0 None))
+first_at version = placed (head_at version []) 0 (commit_request_of (reads_and_sets 0 None))
 
 -- the empty map has nothing at a key
 pub nothing_at : (key : List ℕ) → get {X = List ℕ} {R = slice_cmp nat_cmp} empty key ≡ None

@@ -12,8 +12,8 @@ use Rattle.fdb_txn.specs.declared.entry.Entry.{Entry}
 use Rattle.fdb_txn.specs.declared.spot.Spot.{Spot}
 use Rattle.fdb_txn.specs.declared.spot.Spot.TheVariants as spot
 use Rattle.fdb_txn.specs.book.Transactions.{Transaction}
-use Rattle.fdb_txn.specs.book.Book.{Stamped, Place, Seen, nothing, placed, add_places, add_entry, seen_of, last_version}
-use Rattle.fdb_txn.specs.book.Book.{seen_before}
+use Rattle.fdb_txn.specs.book.Book.{Head, Place, Seen, nothing, head_of, placed, add_places, add_entry, seen_of}
+use Rattle.fdb_txn.specs.book.Book.{last_version, seen_before}
 use Rattle.fdb_txn.specs.book.Places.{place_in, place_of, place_at}
 use Rattle.fdb_txn.specs.rules.Admission.{is_fresh, committed}
 use Rattle.fdb_txn.specs.book.History.{IsHistory, AreEntries}
@@ -22,7 +22,7 @@ use Rattle.fdb_txn.proofs.Exports.{add_places-newer, places_are_history, earlier
 use Rattle.fdb_txn.proofs.Exports.{reads_stand}
 use Rattle.fdb_proxy.specs.declared.outcome.Outcome.{Outcome}
 use Rattle.fdb_proxy.specs.declared.outcome.Outcome.TheVariants as outcome
-use Rattle.fdb_proxy.specs.Verdicts.{moves_through, outcomes_from, outcomes_on}
+use Rattle.fdb_proxy.specs.Verdicts.{outcomes_from, outcomes_on}
 use Rattle.fdb_client.specs.declared.program.Op.{Op}
 use Rattle.fdb_client.specs.declared.program.Reply.{Reply}
 use Rattle.fdb_client.specs.declared.program.Transcript.{Transcript}
@@ -110,11 +110,11 @@ extends-further version places middle earlier later here = (
 )
 
 -- the transactions of an entry extend the places by ones of its version
-extends-batch : (least version : ℕ) (moves : List Stamped) (batch : List Transaction) (earlier : List Place)
-    → least ≤ version
-    → Extends least (add_places version moves batch earlier) earlier
-extends-batch least version moves batch earlier reached =
-    let added = add_places-newer version moves batch earlier in (
+extends-batch : (least : ℕ) (head : Head) (p : ℕ) (batch : List Transaction) (earlier : List Place)
+    → least ≤ head.version
+    → Extends least (add_places head p batch earlier) earlier
+extends-batch least head p batch earlier reached =
+    let added = add_places-newer head p batch earlier in (
       added.0,
       added.1,
       all-weaken _ (λ (place : Place). least ≤ place.version)
@@ -130,7 +130,7 @@ extends-entries resolvers least last seen (entry ∷ book) reached entries =
     let here : least ≤ entry.version = le_trans reached (le_of_lt entries.0) in
     extends-further least (fold add_entry seen (entry ∷ book)).places (add_entry seen entry).places seen.places
     (extends-entries resolvers least entry.version (add_entry seen entry) book here entries.4)
-    (extends-batch least entry.version (moves_through seen entry) entry.batch seen.places here)
+    (extends-batch least (head_of seen entry) 0 entry.batch seen.places here)
 
 -- a book extends what was seen through one of its entries by places of at least its version
 extends-through : (resolvers last : ℕ) (seen : Seen) (book : List Entry) (n : ℕ) (entry : Entry)
@@ -148,15 +148,14 @@ extends-through resolvers last seen (first ∷ book) (suc n) entry entries there
 
 -- a transaction that was answered on the map at its read version was answered as on the map right before its
 -- place, where it is committed
-answered-there : (splits : List Point) (transcript : Transcript) (version : ℕ) (moves : List Stamped)
-    (earlier : List Place)
-    → IsHistory (suc (length splits)) (placed version moves (commit_request_of transcript) ∷ earlier)
-    → committed splits earlier (placed version moves (commit_request_of transcript)) ≡ true
+answered-there : (splits : List Point) (transcript : Transcript) (head : Head) (p : ℕ) (earlier : List Place)
+    → IsHistory (suc (length splits)) (placed head p (commit_request_of transcript) ∷ earlier)
+    → committed splits earlier (placed head p (commit_request_of transcript)) ≡ true
     → replies_of transcript.ops
     ≡ exec (serial_map_at splits transcript.read_version
-    (placed version moves (commit_request_of transcript) ∷ earlier)) (program transcript.ops)
+    (placed head p (commit_request_of transcript) ∷ earlier)) (program transcript.ops)
     → AnsweredOn (serial_map splits earlier) transcript
-answered-there splits transcript version moves earlier history commits answered =
+answered-there splits transcript head p earlier history commits answered =
     subst (λ (replies : List Reply). AgreeWhereOrdinary ops replies (exec (serial_map splits earlier) ops))
     (sym answered)
     (programs_agree read (serial_map splits earlier) ops
@@ -167,7 +166,7 @@ answered-there splits transcript version moves earlier history commits answered 
     ops = program transcript.ops
 
     place : Place
-    place = placed version moves (commit_request_of transcript)
+    place = placed head p (commit_request_of transcript)
 
     read : Map
     read = serial_map_at splits transcript.read_version (place ∷ earlier)
@@ -184,19 +183,20 @@ first-stands m n p version transcript transcripts outcomes true false here other
 first-stands m n p version transcript transcripts outcomes true true here others = (here refl, others)
 
 -- a batch, transaction by transaction
-module _ (m : Machine) (n version : ℕ) (moves : List Stamped) (reported : version ≤ m.committed)
+module _ (m : Machine) (n : ℕ) (head : Head) (reported : head.version ≤ m.committed)
     (history : IsHistory (suc (length m.config.resolver_splits)) (seen_of m.book).places) where
   -- those that are committed stand, from place p on
   stands-from : (transcripts : List Transcript) (earlier : List Place) (p : ℕ)
       → AllByRecursion (IsReplied m) transcripts
-      → Extends version (seen_of m.book).places (add_places version moves (map commit_request_of transcripts) earlier)
-      → ((q : ℕ) → place_at m.book n (p + q) ≡ place_in version moves (map commit_request_of transcripts) earlier q)
+      → Extends head.version (seen_of m.book).places
+      (add_places head p (map commit_request_of transcripts) earlier)
+      → ((q : ℕ) → place_at m.book n (p + q) ≡ place_in head p (map commit_request_of transcripts) earlier q)
       → AllByRecursion (Stands m)
       (placed_from n transcripts
-      (outcomes_from m.config.resolver_splits version moves (map commit_request_of transcripts) earlier p))
+      (outcomes_from m.config.resolver_splits head (map commit_request_of transcripts) earlier p))
   stands-from [] earlier p told extends at = tt
   stands-from (transcript ∷ transcripts) earlier p told extends at =
-      first-stands m n p version transcript transcripts _ (is_fresh place)
+      first-stands m n p head.version transcript transcripts _ (is_fresh place)
       (committed m.config.resolver_splits earlier place)
       (λ commits. (
         (
@@ -205,9 +205,9 @@ module _ (m : Machine) (n version : ℕ) (moves : List Stamped) (reported : vers
           refl,
           refl,
           commits,
-          answered-there m.config.resolver_splits transcript version moves earlier here commits
+          answered-there m.config.resolver_splits transcript head p earlier here commits
               (told.0.1 ∙ ap (λ (read : Map). exec read (program transcript.ops))
-              (map-extends m.config.resolver_splits transcript.read_version version (seen_of m.book).places
+              (map-extends m.config.resolver_splits transcript.read_version head.version (seen_of m.book).places
               (place ∷ earlier) here.0.0 through)),
         ),
         (reported, here.0.0),
@@ -216,13 +216,13 @@ module _ (m : Machine) (n version : ℕ) (moves : List Stamped) (reported : vers
       (λ q. ap (place_at m.book n) (suc-add p q ∙ sym (add-suc p q)) ∙ at (suc q)))
     where
       place : Place
-      place = placed version moves (commit_request_of transcript)
+      place = placed head p (commit_request_of transcript)
 
-      through : Extends version (seen_of m.book).places (place ∷ earlier)
-      through = extends-further version (seen_of m.book).places
-          (add_places version moves (map commit_request_of transcripts) (place ∷ earlier)) (place ∷ earlier)
-          extends (extends-batch version version moves (map commit_request_of transcripts) (place ∷ earlier)
-          (le_refl version))
+      through : Extends head.version (seen_of m.book).places (place ∷ earlier)
+      through = extends-further head.version (seen_of m.book).places
+          (add_places head (suc p) (map commit_request_of transcripts) (place ∷ earlier)) (place ∷ earlier)
+          extends (extends-batch head.version head (suc p) (map commit_request_of transcripts) (place ∷ earlier)
+          (le_refl head.version))
 
       here : IsHistory (suc (length m.config.resolver_splits)) (place ∷ earlier)
       here = history-earlier (suc (length m.config.resolver_splits)) through.0 (place ∷ earlier)
@@ -239,20 +239,20 @@ pub batch_serialized : (m : Machine) (commit_proxy : CommitProxy) (entry : Entry
 batch_serialized m commit_proxy entry entries told there batch reported =
     subst (λ (ts : List Transaction). AllByRecursion (Stands m)
     (placed_from commit_proxy.entry commit_proxy.in_flight
-    (outcomes_from m.config.resolver_splits entry.version moves ts before.places 0)))
+    (outcomes_from m.config.resolver_splits head ts before.places 0)))
     (sym batch)
-    (stands-from m commit_proxy.entry entry.version moves reported
+    (stands-from m commit_proxy.entry head reported
     (places_are_history (suc (length m.config.resolver_splits)) m.book entries)
     commit_proxy.in_flight before.places 0 told
     (subst (λ (ts : List Transaction). Extends entry.version (seen_of m.book).places
-    (add_places entry.version moves ts before.places)) batch
+    (add_places head 0 ts before.places)) batch
     (extends-through (suc (length m.config.resolver_splits)) 0 nothing m.book commit_proxy.entry entry entries there))
     (λ q. ap (place_at m.book commit_proxy.entry) (zero-add q)
     ∙ ap (place_of before q) there
-    ∙ ap (λ (ts : List Transaction). place_in entry.version moves ts before.places q) batch))
+    ∙ ap (λ (ts : List Transaction). place_in head 0 ts before.places q) batch))
   where
     before : Seen
     before = seen_before m.book commit_proxy.entry
 
-    moves : List Stamped
-    moves = moves_through before entry
+    head : Head
+    head = head_of before entry

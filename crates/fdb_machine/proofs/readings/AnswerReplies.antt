@@ -10,12 +10,12 @@ use Rattle.fdb_keys.specs.Points.{Point}
 use Rattle.fdb_txn.specs.declared.entry.Entry.{Entry}
 use Rattle.fdb_txn.specs.declared.spot.Spot.TheVariants as spot
 use Rattle.fdb_txn.specs.book.Transactions.{Transaction}
-use Rattle.fdb_txn.specs.book.Book.{Place, Seen, placed, seen_before}
+use Rattle.fdb_txn.specs.book.Book.{Place, Seen, head_of, placed, seen_before}
 use Rattle.fdb_txn.specs.book.Places.{place_in, place_of, place_at}
 use Rattle.fdb_txn.specs.rules.Admission.{committed}
 use Rattle.fdb_proxy.specs.declared.outcome.Outcome.{Outcome}
 use Rattle.fdb_proxy.specs.declared.outcome.Outcome.TheVariants as outcome
-use Rattle.fdb_proxy.specs.Verdicts.{outcome_at, moves_through, outcomes_on}
+use Rattle.fdb_proxy.specs.Verdicts.{outcome_at, outcomes_on}
 use Rattle.fdb_client.specs.declared.program.Transcript.{Transcript}
 use Rattle.fdb_client.specs.Programs.{commit_request_of}
 use Rattle.fdb_roles.specs.Outcomes.{IsByRule}
@@ -88,7 +88,7 @@ module _ (splits : List Point) (book : List Entry) (index : ℕ) (entry : Entry)
 
   module _ (p : ℕ) (transcript : Transcript) (at : slice_get transcripts p ≡ Some transcript) where
     abbrev place : Place
-    place = placed entry.version (moves_through before entry) (commit_request_of transcript)
+    place = placed (head_of before entry) (0 + p) (commit_request_of transcript)
 
     abbrev spotted : Placed
     spotted = record { spot = spot.Entry index p entry.version; transcript = transcript }
@@ -99,10 +99,9 @@ module _ (splits : List Point) (book : List Entry) (index : ℕ) (entry : Entry)
 
     -- the place is there, after earlier ones, and its outcome is by the rule
     found : (earlier : List Place)
-        × (place_in entry.version (moves_through before entry) entry.batch before.places p ≡ Some (place, earlier))
+        × (place_in (head_of before entry) 0 entry.batch before.places p ≡ Some (place, earlier))
         × (slice_get outcomes p ≡ Some (outcome_at splits earlier place (0 + p)))
-    found = place-found splits entry.version (moves_through before entry) entry.batch before.places 0 p
-        (commit_request_of transcript) asks
+    found = place-found splits (head_of before entry) entry.batch before.places 0 p (commit_request_of transcript) asks
 
     outcome-is : slice_get outcomes p ≡ Some (outcome_at splits found.0 place p)
     outcome-is =

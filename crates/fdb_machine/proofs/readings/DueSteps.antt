@@ -9,11 +9,11 @@ use Rattle.fdb_keys.specs.Points.{Point}
 use Rattle.fdb_keys.specs.declared.refusal.Refusal.{Refusal}
 use Rattle.fdb_keys.specs.declared.refusal.Refusal.TheVariants.{NotYet}
 use Rattle.fdb_txn.specs.declared.entry.Entry.{Entry}
-use Rattle.fdb_txn.specs.book.Book.{Stamped, Place, placed, seen_before}
+use Rattle.fdb_txn.specs.book.Book.{Head, Place, head_of, placed, seen_before}
 use Rattle.fdb_txn.specs.book.Places.{place_in, place_at}
 use Rattle.fdb_txn.specs.book.Transactions.{Transaction}
 use Rattle.fdb_txn.specs.rules.Owners.{is_asked}
-use Rattle.fdb_proxy.specs.Verdicts.{asks_about, is_needed, moves_through}
+use Rattle.fdb_proxy.specs.Verdicts.{asks_about, is_needed}
 use Rattle.fdb_proxy.specs.declared.config.Config.{Config}
 use Rattle.fdb_roles.proofs.Exports.{within-item}
 use Rattle.fdb_machine.specs.headline.Answers.{IsAskedAt, IsVerdictDue, IsPushed, IsAcknowledgementDue}
@@ -47,26 +47,26 @@ use Rattle.fdb_machine.specs.declared.step.AnyStep.TheVariants as step
 -- ---- what is missing
 
 -- who is asked is asked about a place
-place-asked : (splits : List Point) (version : ℕ) (moves : List Stamped) (resolver : ℕ) (batch : List Transaction)
-    (earlier : List Place) → asks_about splits version moves resolver batch ≡ true
-    → (q : ℕ) × (there : Place × List Place) × (place_in version moves batch earlier q ≡ Some there)
+place-asked : (splits : List Point) (head : Head) (resolver n : ℕ) (batch : List Transaction) (earlier : List Place)
+    → asks_about splits head resolver n batch ≡ true
+    → (q : ℕ) × (there : Place × List Place) × (place_in head n batch earlier q ≡ Some there)
     × (is_asked splits resolver there.0 ≡ true)
-place-asked splits version moves resolver [] earlier asked = cc
-place-asked splits version moves resolver (t ∷ batch) earlier asked =
-    either (is_asked splits resolver (placed version moves t)) refl asked
-    (place-asked splits version moves resolver batch (placed version moves t ∷ earlier))
+place-asked splits head resolver n [] earlier asked = cc
+place-asked splits head resolver n (t ∷ batch) earlier asked =
+    either (is_asked splits resolver (placed head n t)) refl asked
+    (place-asked splits head resolver (suc n) batch (placed head n t ∷ earlier))
   where
     Found : Type 0
-    Found = (q : ℕ) × (there : Place × List Place) × (place_in version moves (t ∷ batch) earlier q ≡ Some there)
+    Found = (q : ℕ) × (there : Place × List Place) × (place_in head n (t ∷ batch) earlier q ≡ Some there)
         × (is_asked splits resolver there.0 ≡ true)
 
-    either : (own : Bool) → is_asked splits resolver (placed version moves t) ≡ own
-        → (own || asks_about splits version moves resolver batch) ≡ true
-        → (asks_about splits version moves resolver batch ≡ true
+    either : (own : Bool) → is_asked splits resolver (placed head n t) ≡ own
+        → (own || asks_about splits head resolver (suc n) batch) ≡ true
+        → (asks_about splits head resolver (suc n) batch ≡ true
         → (q : ℕ) × (there : Place × List Place)
-        × (place_in version moves batch (placed version moves t ∷ earlier) q ≡ Some there)
+        × (place_in head (suc n) batch (placed head n t ∷ earlier) q ≡ Some there)
         × (is_asked splits resolver there.0 ≡ true)) → Found
-    either true is asks later = (0, (placed version moves t, earlier), refl, is)
+    either true is asks later = (0, (placed head n t, earlier), refl, is)
     either false is asks later = let found = later asks in (suc found.0, found.1, found.2, found.3)
 
 -- none is missing where all that is needed is there
@@ -289,9 +289,8 @@ module _ (m : Machine) (r : Readings) (has : HasRoles m) (sound : Invariant m) (
     needed-asked : (resolver : ℕ) → needed resolver ≡ true
         → (p : ℕ) × (there : Place × List Place) × IsAskedAt m.config r number resolver p there
     needed-asked resolver is =
-        let found = place-asked m.config.resolver_splits its-entry.0.version
-        (moves_through (seen_before m.book own.entry) its-entry.0) resolver its-entry.0.batch
-        (seen_before m.book own.entry).places is in (
+        let found = place-asked m.config.resolver_splits (head_of (seen_before m.book own.entry) its-entry.0) resolver 0
+        its-entry.0.batch (seen_before m.book own.entry).places is in (
           found.0,
           found.1,
           (
@@ -305,9 +304,8 @@ module _ (m : Machine) (r : Readings) (has : HasRoles m) (sound : Invariant m) (
     asked-needed : (resolver p : ℕ) (there : Place × List Place) → IsAskedAt m.config r number resolver p there
         → needed resolver ≡ true
     asked-needed resolver p there asked =
-        asked-about m.config.resolver_splits its-entry.0.version
-        (moves_through (seen_before m.book own.entry) its-entry.0) resolver its-entry.0.batch
-        (seen_before m.book own.entry).places p there
+        asked-about m.config.resolver_splits (head_of (seen_before m.book own.entry) its-entry.0) resolver
+        its-entry.0.batch (seen_before m.book own.entry).places 0 p there
         (sym (place-told m r has sound tells told own.entry its-entry.0 its-entry.1 p)
         ∙ ap (λ (i : ℕ). place_at r.book i p) waiting.3 ∙ asked.0)
         asked.1

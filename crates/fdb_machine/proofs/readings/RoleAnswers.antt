@@ -7,12 +7,12 @@ use Rattle.std.proofs.lemmas.List.{length-replicate, length-set}
 use Rattle.std.proofs.lemmas.Option.{slice_get_within}
 use Rattle.fdb_keys.specs.Points.{Point}
 use Rattle.fdb_txn.specs.declared.entry.Entry.{Entry}
-use Rattle.fdb_txn.specs.book.Book.{Place, Seen, last_version, seen_before}
+use Rattle.fdb_txn.specs.book.Book.{Place, Seen, head_of, last_version, seen_before}
 use Rattle.fdb_txn.specs.book.Places.{place_in, place_of, place_at}
 use Rattle.fdb_log.specs.Messages.{log_of}
 use Rattle.fdb_proxy.specs.declared.config.Config.{Config}
 use Rattle.fdb_proxy.specs.declared.outcome.Outcome.{Outcome}
-use Rattle.fdb_proxy.specs.Verdicts.{verdict_at, moves_through, verdicts_on, is_needed, outcomes_on}
+use Rattle.fdb_proxy.specs.Verdicts.{verdict_at, verdicts_on, is_needed, outcomes_on}
 use Rattle.fdb_roles.specs.Outcomes.{IsByRule}
 use Rattle.fdb_roles.proofs.Exports.{length-outcomes_on, contains-item, item-contained, place-by-rule}
 use Rattle.fdb_machine.specs.headline.Answers.{IsAnswered, IsResolved, IsVerdictByRule, entries_of_shard}
@@ -132,7 +132,7 @@ module _ (m : Machine) (r : Readings) (has : HasRoles m) (sound : Invariant m) (
     -- a place that is told is one of the entry
     pub place-told : (p : ℕ)
         → place_at r.book i p
-        ≡ place_in entry.version (moves_through before entry) entry.batch before.places p
+        ≡ place_in (head_of before entry) 0 entry.batch before.places p
     place-told p = ap (λ (book : List Entry). place_at book i p) tells.book_told ∙ ap (place_of before p) is
 
     -- what a resolver says of the entry is by the rule
@@ -143,10 +143,10 @@ module _ (m : Machine) (r : Readings) (has : HasRoles m) (sound : Invariant m) (
       exists =
           let within = slice_get_within m.resolvers resolver i its in omega (arith, within, has.resolvers);
       its_turn = told.resolved_told resolver ∙ ap (λ (found : Option ℕ). unwrap_or found 0) its;
-      by_place = said-rises splits entry.version (moves_through before entry) resolver entry.batch before.places 0;
+      by_place = said-rises splits (head_of before entry) resolver entry.batch before.places 0;
       by_rule = λ p said contains.
           let item = item-contained (verdicts_on splits resolver before entry) (p, said) contains in
-          let found = said-at splits entry.version (moves_through before entry) resolver entry.batch before.places 0
+          let found = said-at splits (head_of before entry) resolver entry.batch before.places 0
           item.0 p said item.1 in
           let number : p ≡ found.0 = omega (arith, found.1) in (
             found.2,
@@ -155,7 +155,7 @@ module _ (m : Machine) (r : Readings) (has : HasRoles m) (sound : Invariant m) (
                 (verdict-by-rule splits resolver found.2.1 found.2.0),
           );
       of_each = λ p there asked.
-          let found = said-of splits entry.version (moves_through before entry) resolver entry.batch before.places 0 p
+          let found = said-of splits (head_of before entry) resolver entry.batch before.places 0 p
           there (sym (place-told p) ∙ asked.0) asked.1 in (
             verdict_at splits resolver there.1 there.0,
             contains-item (verdicts_on splits resolver before entry) found.0
@@ -189,8 +189,8 @@ module _ (m : Machine) (r : Readings) (has : HasRoles m) (sound : Invariant m) (
             ∙ none-missing (λ resolver. is_needed splits resolver before by.entry) 0 commit_proxy.verdicts_received
             resolver by.whole (omega (arith, exists, has.resolvers, was.2))
             (ap (λ (n : ℕ). is_needed splits n before by.entry) (first resolver)
-            ∙ asked-about splits by.entry.version (moves_through before by.entry) resolver by.entry.batch
-            before.places p there (sym (place-told commit_proxy.entry by.entry by.entry_is p) ∙ asked.0) asked.1);
+            ∙ asked-about splits (head_of before by.entry) resolver by.entry.batch before.places 0 p
+            there (sym (place-told commit_proxy.entry by.entry by.entry_is p) ∙ asked.0) asked.1);
         all_places = length-outcomes_on splits before by.entry;
         by_rule = became-by-rule commit_proxy.entry by.entry by.entry_is;
       })

@@ -7,7 +7,7 @@ use Rattle.std.proofs.lemmas.Bool.{lt-leb, le-leb}
 use Rattle.std.proofs.lemmas.List.Sums.{sum_by-cons}
 use Rattle.fdb_keys.specs.Points.{Point}
 use Rattle.fdb_txn.specs.declared.entry.Entry.{Entry}
-use Rattle.fdb_txn.specs.book.Book.{Stamped, Place, placed}
+use Rattle.fdb_txn.specs.book.Book.{Head, Place, placed}
 use Rattle.fdb_txn.specs.book.History.{AreEntries}
 use Rattle.fdb_txn.specs.book.Places.{place_in}
 use Rattle.fdb_txn.specs.book.Transactions.{Transaction}
@@ -40,15 +40,15 @@ verdict-by-rule splits resolver earlier place =
     by_cases true false =
         ((λ is. cc, λ is. cc), (λ is. cc, λ is. let free = is.1 in cc), (λ is. (refl, refl), λ is. refl))
 
-module _ (splits : List Point) (version : ℕ) (moves : List Stamped) (resolver : ℕ) where
+module _ (splits : List Point) (head : Head) (resolver : ℕ) where
   abbrev said_from : List Transaction → List Place → ℕ → List (ℕ × Verdict)
-  said_from batch earlier n = verdicts_from splits version moves resolver batch earlier n
+  said_from batch earlier n = verdicts_from splits head resolver batch earlier n
 
   -- a place about which the resolver is asked, with what it says there
   abbrev SaidAt : List Transaction → List Place → (n p : ℕ) → Verdict → Type 0
   SaidAt batch earlier n p said =
       (q : ℕ) × (p ≡ n + q) × (there : Place × List Place)
-      × (place_in version moves batch earlier q ≡ Some there) × (is_asked splits resolver there.0 ≡ true)
+      × (place_in head n batch earlier q ≡ Some there) × (is_asked splits resolver there.0 ≡ true)
       × (said ≡ verdict_at splits resolver there.1 there.0)
 
   -- what is said is said of a place about which the resolver is asked
@@ -64,7 +64,7 @@ module _ (splits : List Point) (version : ℕ) (moves : List Stamped) (resolver 
       k at
     where
       place : Place
-      place = placed version moves t
+      place = placed head n t
 
       own : ℕ × Verdict
       own = (n, verdict_at splits resolver earlier place)
@@ -90,29 +90,29 @@ module _ (splits : List Point) (version : ℕ) (moves : List Stamped) (resolver 
 
   -- and something is said of each of them
   pub said-of : (batch : List Transaction) (earlier : List Place) (n q : ℕ) (there : Place × List Place)
-      → place_in version moves batch earlier q ≡ Some there → is_asked splits resolver there.0 ≡ true
+      → place_in head n batch earlier q ≡ Some there → is_asked splits resolver there.0 ≡ true
       → (k : ℕ) × (slice_get (said_from batch earlier n) k
       ≡ Some (n + q, verdict_at splits resolver there.1 there.0))
   said-of [] earlier n q there at asked = cc
   said-of (t ∷ batch) earlier n zero there at asked =
-      let same : Path (Place × List Place) (placed version moves t, earlier) there = cc in
+      let same : Path (Place × List Place) (placed head n t, earlier) there = cc in
       let number : n + 0 ≡ n = omega arith in
-      let own : is_asked splits resolver (placed version moves t) ≡ true =
+      let own : is_asked splits resolver (placed head n t) ≡ true =
       ap (λ (it : Place × List Place). is_asked splits resolver it.0) same ∙ asked in (
         0,
         rw own (λ i. Some (sym number i, verdict_at splits resolver (same i).1 (same i).0)),
       )
   said-of (t ∷ batch) earlier n (suc q) there at asked =
-      let found = said-of batch (placed version moves t ∷ earlier) (suc n) q there at asked in
+      let found = said-of batch (placed head n t ∷ earlier) (suc n) q there at asked in
       let number : suc n + q ≡ n + suc q = omega arith in
-      by_asked (is_asked splits resolver (placed version moves t)) found.0
+      by_asked (is_asked splits resolver (placed head n t)) found.0
       (found.1 ∙ ap (λ (p : ℕ). Some (p, verdict_at splits resolver there.1 there.0)) number)
     where
       own : ℕ × Verdict
-      own = (n, verdict_at splits resolver earlier (placed version moves t))
+      own = (n, verdict_at splits resolver earlier (placed head n t))
 
       rest : List (ℕ × Verdict)
-      rest = said_from batch (placed version moves t ∷ earlier) (suc n)
+      rest = said_from batch (placed head n t ∷ earlier) (suc n)
 
       by_asked : (asked : Bool) (k : ℕ)
           → slice_get rest k ≡ Some (n + suc q, verdict_at splits resolver there.1 there.0)
@@ -132,7 +132,7 @@ module _ (splits : List Point) (version : ℕ) (moves : List Stamped) (resolver 
       (λ i j. said-rises batch (place ∷ earlier) (suc n) i j one other) i j before at_one at_other
     where
       place : Place
-      place = placed version moves t
+      place = placed head n t
 
       rest : List (ℕ × Verdict)
       rest = said_from batch (place ∷ earlier) (suc n)
@@ -155,20 +155,20 @@ module _ (splits : List Point) (version : ℕ) (moves : List Stamped) (resolver 
       by_asked false rises i j before at_one at_other = rises i j before at_one at_other
 
   -- who is asked about a place is asked
-  pub asked-about : (batch : List Transaction) (earlier : List Place) (q : ℕ) (there : Place × List Place)
-      → place_in version moves batch earlier q ≡ Some there → is_asked splits resolver there.0 ≡ true
-      → asks_about splits version moves resolver batch ≡ true
-  asked-about [] earlier q there at asked = cc
-  asked-about (t ∷ batch) earlier zero there at asked =
-      let same : Path (Place × List Place) (placed version moves t, earlier) there = cc in
-      let own : is_asked splits resolver (placed version moves t) ≡ true =
+  pub asked-about : (batch : List Transaction) (earlier : List Place) (n q : ℕ) (there : Place × List Place)
+      → place_in head n batch earlier q ≡ Some there → is_asked splits resolver there.0 ≡ true
+      → asks_about splits head resolver n batch ≡ true
+  asked-about [] earlier n q there at asked = cc
+  asked-about (t ∷ batch) earlier n zero there at asked =
+      let same : Path (Place × List Place) (placed head n t, earlier) there = cc in
+      let own : is_asked splits resolver (placed head n t) ≡ true =
       ap (λ (it : Place × List Place). is_asked splits resolver it.0) same ∙ asked in rw own refl
-  asked-about (t ∷ batch) earlier (suc q) there at asked =
-      either (is_asked splits resolver (placed version moves t))
-      (asked-about batch (placed version moves t ∷ earlier) q there at asked)
+  asked-about (t ∷ batch) earlier n (suc q) there at asked =
+      either (is_asked splits resolver (placed head n t))
+      (asked-about batch (placed head n t ∷ earlier) (suc n) q there at asked)
     where
-      either : (own : Bool) → asks_about splits version moves resolver batch ≡ true
-          → (own || asks_about splits version moves resolver batch) ≡ true
+      either : (own : Bool) → asks_about splits head resolver (suc n) batch ≡ true
+          → (own || asks_about splits head resolver (suc n) batch) ≡ true
       either true rest = refl
       either false rest = rest
 

@@ -36,11 +36,12 @@ sum_raised counts place there below =
     omega (arith, more, sum_by-set (λ x. x) counts place (raised (slice_index_or counts place 0)) 0 there)
 
 -- each code has its place
-has_place : (why : Refusal) → place_of (code_of why) < 25
+has_place : (why : Refusal) → place_of (code_of why) < 26
 has_place refusal.TransactionTooOld = omega arith
 has_place refusal.FutureVersion = omega arith
 has_place refusal.NotCommitted = omega arith
 has_place refusal.CommitUnknownResult = omega arith
+has_place refusal.AccessedUnreadable = omega arith
 has_place refusal.KeyOutsideLegalRange = omega arith
 has_place refusal.InvertedRange = omega arith
 has_place refusal.TransactionTooLarge = omega arith
@@ -118,7 +119,7 @@ answer_keeps tally (answered.Version version) = (refl, refl, refl)
 
 -- there is a count for each kind, and for each code
 abbrev HasCounts : Tally → Type 0
-HasCounts tally = (length tally.accepted ≡ 22) × (length tally.refusals ≡ 25)
+HasCounts tally = (length tally.accepted ≡ 22) × (length tally.refusals ≡ 26)
 
 note_counts : (tally : Tally) (kind : ℕ) (answer : Result Answered Refusal) → HasCounts tally
     → HasCounts (noting tally kind answer)

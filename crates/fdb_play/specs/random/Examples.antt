@@ -20,7 +20,7 @@ WorkedCounts =
     (raised 0 ≡ 1) × (raised 4294967294 ≡ 4294967295) × (raised 4294967295 ≡ 4294967295)
     × (raised_at (3 ∷ 4 ∷ []) 1 ≡ 3 ∷ 5 ∷ [])
     × (raised_at (3 ∷ 4 ∷ []) 2 ≡ 3 ∷ 4 ∷ [])
-    × (place_of 1007 ≡ 0) × (place_of 9003 ≡ 11) × (place_of 9016 ≡ 24) × (place_of 1008 ≡ 25)
+    × (place_of 1007 ≡ 0) × (place_of 9003 ≡ 12) × (place_of 9016 ≡ 25) × (place_of 1008 ≡ 26)
 
 -- the first write, refused
 abbrev pub refused_write : Tally
@@ -38,7 +38,7 @@ answered_batch = noting no_tally 17 (Ok (Answers batch_answers))
 -- accepted step by its kind, with each transaction that it ends by its outcome.
 abbrev pub WorkedNotes : Type 0
 WorkedNotes =
-    (refused_write ≡ record no_tally { refused = 1; refusals = one_at 11 13 })
+    (refused_write ≡ record no_tally { refused = 1; refusals = one_at 12 13 })
     × (noting no_tally 6 (Ok Done) ≡ record no_tally { accepted = one_at 6 15 })
     × (noting no_tally 16 (Ok (Version 7000)) ≡ record no_tally { accepted = one_at 16 5 })
     × (noting no_tally 9 (Ok (ReadOnly 7000)) ≡ record no_tally { accepted = one_at 9 12; read_only = 1 })

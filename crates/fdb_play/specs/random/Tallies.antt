@@ -23,8 +23,8 @@ raised_at counts place = slice_set counts place (raised (slice_index_or counts p
 -- the codes of all refusals
 abbrev pub refusal_codes : List ℕ
 refusal_codes =
-    1007 ∷ 1009 ∷ 1020 ∷ 1021 ∷ 2004 ∷ 2005 ∷ 2101 ∷ 2102 ∷ 2103 ∷ 9001 ∷ 9002 ∷ 9003 ∷ 9004 ∷ 9005 ∷ 9006 ∷ 9007
-    ∷ 9008 ∷ 9009 ∷ 9010 ∷ 9011 ∷ 9012 ∷ 9013 ∷ 9014 ∷ 9015 ∷ 9016 ∷ []
+    1007 ∷ 1009 ∷ 1020 ∷ 1021 ∷ 1036 ∷ 2004 ∷ 2005 ∷ 2101 ∷ 2102 ∷ 2103 ∷ 9001 ∷ 9002 ∷ 9003 ∷ 9004 ∷ 9005 ∷ 9006
+    ∷ 9007 ∷ 9008 ∷ 9009 ∷ 9010 ∷ 9011 ∷ 9012 ∷ 9013 ∷ 9014 ∷ 9015 ∷ 9016 ∷ []
 
 -- the place of a code among all codes, and behind them where it is none
 abbrev pub place_of : ℕ → ℕ
@@ -62,7 +62,7 @@ no_tally = record {
   conflicting = 0;
   too_old = 0;
   accepted = replicate 22 0;
-  refusals = replicate 25 0;
+  refusals = replicate 26 0;
 }
 
 -- one more transaction of which this became

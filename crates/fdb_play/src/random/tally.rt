@@ -9,12 +9,12 @@ use fdb_core::{Answered, Outcome};
 use fdb_keys::Refusal;
 
 /// How many refusals there are.
-const REFUSALS: usize = 25;
+const REFUSALS: usize = 26;
 
 /// The codes of all refusals.
 pub const CODES: [u32; REFUSALS] = [
-    1007, 1009, 1020, 1021, 2004, 2005, 2101, 2102, 2103, 9001, 9002, 9003, 9004, 9005, 9006, 9007,
-    9008, 9009, 9010, 9011, 9012, 9013, 9014, 9015, 9016,
+    1007, 1009, 1020, 1021, 1036, 2004, 2005, 2101, 2102, 2103, 9001, 9002, 9003, 9004, 9005, 9006,
+    9007, 9008, 9009, 9010, 9011, 9012, 9013, 9014, 9015, 9016,
 ];
 
 /// How often steps were answered this or that.

@@ -1,6 +1,6 @@
 -- The places of a book, and one entry more.
 use Rattle.std.proofs.Common.{◌≡◌, ◌∙◌, sym, ap, refl, ℕ, zero, suc, ◌<◌, ◌≤◌, le_refl, le_trans, le_of_lt, subst}
-use Rattle.std.proofs.Common.{append_assoc, List, [], ◌∷◌, ◌++◌, take, drop, fold, slice_get, Some, None, arith}
+use Rattle.std.proofs.Common.{append_assoc, ◌+◌, List, [], ◌∷◌, ◌++◌, take, drop, fold, slice_get, Some, None, arith}
 use Rattle.std.specs.List.{AllByRecursion}
 use Rattle.std.proofs.lemmas.Bool.{cond-true, cond-false, le-leb, lt-leb}
 use Rattle.std.proofs.lemmas.List.Sums.{fold-append}
@@ -8,7 +8,8 @@ use Rattle.fdb_keys.proofs.Exports.{all-append, all-weaken}
 use Rattle.fdb_txn.specs.declared.entry.Move.{Move}
 use Rattle.fdb_txn.specs.declared.entry.Entry.{Entry}
 use Rattle.fdb_txn.specs.book.Transactions.{Transaction, NamesWrites}
-use Rattle.fdb_txn.specs.book.Book.{Stamped, Place, Seen, nothing, add_moves, placed, add_places, add_entry, seen_of}
+use Rattle.fdb_txn.specs.book.Book.{Stamped, Head, Place, Seen, nothing, add_moves, head_of, placed}
+use Rattle.fdb_txn.specs.book.Book.{add_places, add_entry, seen_of}
 use Rattle.fdb_txn.specs.book.Places.{place_in, place_of}
 use Rattle.fdb_txn.specs.book.History.{AreLinked, ReadsBelow, MovesExist, IsSealed, IsBook, IsHistory, AreEntries}
 use Rattle.fdb_txn.specs.rules.SerialMap.{serial_map, up_to}
@@ -87,16 +88,17 @@ after-newer resolvers last version moves older later newer place after = (
 )
 
 -- the places of an entry go on a history that they follow
-history-add_places : (resolvers version : ℕ) (moves : List Stamped) (batch : List Transaction) (earlier : List Place)
-    → AllByRecursion (IsMoveThrough resolvers version) moves → AllByRecursion (MayStandAt version) batch
-    → IsHistory resolvers earlier → AllByRecursion (IsAfter version moves) earlier
-    → IsHistory resolvers (add_places version moves batch earlier)
-    × AllByRecursion (IsAfter version moves) (add_places version moves batch earlier)
-history-add_places resolvers version moves [] earlier through may history after = (history, after)
-history-add_places resolvers version moves (t ∷ ts) earlier through may history after =
-    history-add_places resolvers version moves ts (placed version moves t ∷ earlier) through may.1
+history-add_places : (resolvers : ℕ) (head : Head) (p : ℕ) (batch : List Transaction) (earlier : List Place)
+    → AllByRecursion (IsMoveThrough resolvers head.version) head.moves
+    → AllByRecursion (MayStandAt head.version) batch
+    → IsHistory resolvers earlier → AllByRecursion (IsAfter head.version head.moves) earlier
+    → IsHistory resolvers (add_places head p batch earlier)
+    × AllByRecursion (IsAfter head.version head.moves) (add_places head p batch earlier)
+history-add_places resolvers head p [] earlier through may history after = (history, after)
+history-add_places resolvers head p (t ∷ ts) earlier through may history after =
+    history-add_places resolvers head (suc p) ts (placed head p t ∷ earlier) through may.1
     ((may.0.0, may.0.1, through), after, history)
-    ((le_refl version, ([], refl, tt)), after)
+    ((le_refl head.version, ([], refl, tt)), after)
 
 -- the same as `places_are_history`, after what was seen before
 history-after : (resolvers last : ℕ) (seen : Seen) (book : List Entry)
@@ -109,7 +111,7 @@ history-after resolvers last seen (entry ∷ book) through history after entries
     seen.moves entries.2 in
     let now : AllByRecursion (IsMoveThrough resolvers entry.version) moves =
     moves-through resolvers last entry.version moves seen.moves (le_of_lt entries.0) newer through in
-    let both = history-add_places resolvers entry.version moves entry.batch seen.places now entries.3 history
+    let both = history-add_places resolvers (head_of seen entry) 0 entry.batch seen.places now entries.3 history
     (all-weaken (IsAfter last seen.moves) (IsAfter entry.version moves)
     (after-newer resolvers last entry.version moves seen.moves entries.0 newer)
     seen.places after) in
@@ -123,13 +125,13 @@ pub places_are_history : PlacesAreHistory
 places_are_history resolvers book entries = history-after resolvers 0 nothing book tt tt tt entries
 
 -- the places of an entry stand before the earlier ones and have its version
-pub add_places-newer : (version : ℕ) (moves : List Stamped) (batch : List Transaction) (earlier : List Place)
-    → (newer : List Place) × (add_places version moves batch earlier ≡ newer ++ earlier)
-    × AllByRecursion (λ (place : Place). place.version ≡ version) newer
-add_places-newer version moves [] earlier = ([], refl, tt)
-add_places-newer version moves (t ∷ ts) earlier =
-    let place = placed version moves t in
-    let rest = add_places-newer version moves ts (place ∷ earlier) in (
+pub add_places-newer : (head : Head) (p : ℕ) (batch : List Transaction) (earlier : List Place)
+    → (newer : List Place) × (add_places head p batch earlier ≡ newer ++ earlier)
+    × AllByRecursion (λ (place : Place). place.version ≡ head.version) newer
+add_places-newer head p [] earlier = ([], refl, tt)
+add_places-newer head p (t ∷ ts) earlier =
+    let place = placed head p t in
+    let rest = add_places-newer head (suc p) ts (place ∷ earlier) in (
       rest.0 ++ place ∷ [],
       rest.1
           ∙ sym (append_assoc rest.0 (place ∷ []) earlier),
@@ -143,9 +145,7 @@ seen_of-push book entry = fold-append add_entry nothing book (entry ∷ [])
 -- with one more entry the earlier places stay, after new ones of its version
 pub earlier_places_stay : EarlierPlacesStay
 earlier_places_stay book entry =
-    let added =
-    add_places-newer entry.version (add_moves entry.version entry.moves (seen_of book).moves) entry.batch
-    (seen_of book).places in
+    let added = add_places-newer (head_of (seen_of book) entry) 0 entry.batch (seen_of book).places in
     (added.0, ap (λ (seen : Seen). seen.places) (seen_of-push book entry) ∙ added.1, added.2)
 
 -- no place has a version above v
@@ -237,22 +237,25 @@ books_are_entries resolvers book = (
 )
 
 -- what is found in a batch is a place of it, after the places before it
-abbrev IsFoundIn : ℕ → List Stamped → List Transaction → List Place → ℕ → Place × List Place → Type 0
-IsFoundIn version moves batch earlier p found =
+abbrev IsFoundIn : Head → ℕ → List Transaction → List Place → ℕ → Place × List Place → Type 0
+IsFoundIn head n batch earlier p found =
     (slice_get batch p ≡ Some found.0.transaction)
-    × (found.1 ≡ add_places version moves (take p batch) earlier)
-    × ((newer : List Place) × (add_places version moves batch earlier ≡ newer ++ found.0 ∷ found.1))
+    × (found.1 ≡ add_places head n (take p batch) earlier)
+    × ((newer : List Place) × (add_places head n batch earlier ≡ newer ++ found.0 ∷ found.1))
+    × (found.0.number ≡ n + p)
 
-place_in-found : (version : ℕ) (moves : List Stamped) (batch : List Transaction) (earlier : List Place) (p : ℕ)
+place_in-found : (head : Head) (n : ℕ) (batch : List Transaction) (earlier : List Place) (p : ℕ)
     (found : Place × List Place)
-    → place_in version moves batch earlier p ≡ Some found → IsFoundIn version moves batch earlier p found
-place_in-found version moves [] earlier p found is = absurd (let wrong : None ≡ Some found = is in cc)
-place_in-found version moves (t ∷ ts) earlier zero found is =
-    let same : (placed version moves t, earlier) ≡ found = cc in
-    let added = add_places-newer version moves ts (placed version moves t ∷ earlier) in
-    subst (IsFoundIn version moves (t ∷ ts) earlier zero) same (refl, refl, (added.0, added.1))
-place_in-found version moves (t ∷ ts) earlier (suc p) found is =
-    place_in-found version moves ts (placed version moves t ∷ earlier) p found is
+    → place_in head n batch earlier p ≡ Some found → IsFoundIn head n batch earlier p found
+place_in-found head n [] earlier p found is = absurd (let wrong : None ≡ Some found = is in cc)
+place_in-found head n (t ∷ ts) earlier zero found is =
+    let same : (placed head n t, earlier) ≡ found = cc in
+    let added = add_places-newer head (suc n) ts (placed head n t ∷ earlier) in
+    let number : n ≡ n + 0 = omega arith in
+    subst (IsFoundIn head n (t ∷ ts) earlier zero) same (refl, refl, (added.0, added.1), number)
+place_in-found head n (t ∷ ts) earlier (suc p) found is =
+    let rest = place_in-found head (suc n) ts (placed head n t ∷ earlier) p found is in
+    (rest.0, rest.1, rest.2, omega (arith, rest.3))
 
 -- the places of later entries come before those that were seen
 later-newer : (seen : Seen) (book : List Entry)
@@ -260,8 +263,7 @@ later-newer : (seen : Seen) (book : List Entry)
 later-newer seen [] = ([], refl)
 later-newer seen (entry ∷ book) =
     let rest = later-newer (add_entry seen entry) book in
-    let added =
-    add_places-newer entry.version (add_moves entry.version entry.moves seen.moves) entry.batch seen.places in (
+    let added = add_places-newer (head_of seen entry) 0 entry.batch seen.places in (
       rest.0 ++ added.0,
       rest.1 ∙ ap (λ (places : List Place). rest.0 ++ places) added.1 ∙ sym (append_assoc rest.0 added.0 seen.places),
     )
@@ -276,9 +278,8 @@ book-at (first ∷ book) (suc n) entry there = ap (λ (es : List Entry). first �
 pub places_are_found_in_the_book : PlacesAreFoundInTheBook
 places_are_found_in_the_book book n p entry place earlier there is =
     let before = seen_of (take n book) in
-    let found =
-    place_in-found entry.version (add_moves entry.version entry.moves before.moves) entry.batch before.places p
-    (place, earlier) (sym (ap (place_of before p) there) ∙ is) in
+    let found = place_in-found (head_of before entry) 0 entry.batch before.places p (place, earlier)
+    (sym (ap (place_of before p) there) ∙ is) in
     let rest = later-newer (add_entry before entry) (drop (suc n) book) in
     let whole : (seen_of book).places ≡ (fold add_entry (add_entry before entry) (drop (suc n) book)).places =
     ap (λ (es : List Entry). (seen_of es).places) (book-at book n entry there)
@@ -293,4 +294,5 @@ places_are_found_in_the_book book n p entry place earlier there is =
         whole ∙ rest.1 ∙ ap (λ (places : List Place). rest.0 ++ places) found.2.1
             ∙ sym (append_assoc rest.0 found.2.0 (place ∷ earlier)),
       ),
+      omega (arith, found.3),
     )

@@ -18,7 +18,7 @@ use Rattle.fdb_mutations.specs.Mutations.{names, named_range, new_value, effect,
 use Rattle.fdb_mutations.proofs.Exports.{at_every_point, in_named_range}
 use Rattle.fdb_txn.specs.declared.entry.Entry.{Entry}
 use Rattle.fdb_txn.specs.book.Transactions.{Transaction}
-use Rattle.fdb_txn.specs.book.Book.{Stamped, Place, Seen, nothing, add_moves, placed, add_places, add_entry, seen_of}
+use Rattle.fdb_txn.specs.book.Book.{Head, Place, Seen, nothing, head_of, placed, add_places, add_entry, seen_of}
 use Rattle.fdb_txn.specs.book.Book.{last_version}
 use Rattle.fdb_txn.specs.rules.Admission.{committed}
 use Rattle.fdb_txn.specs.book.History.{AreEntries}
@@ -133,13 +133,13 @@ effects-if map true mutations = refl
 effects-if map false mutations = refl
 
 -- the run goes on through a batch by the mutations of its committed transactions
-pub serial_map-add_places : (splits : List Point) (version : ℕ) (moves : List Stamped) (p : ℕ)
-    (batch : List Transaction) (earlier : List Place)
-    → serial_map splits (add_places version moves batch earlier) ≡ effects (serial_map splits earlier)
-    (mutations_in (committed_from splits version moves p batch earlier))
-serial_map-add_places splits version moves p [] earlier = refl
-serial_map-add_places splits version moves p (t ∷ ts) earlier =
-    serial_map-add_places splits version moves (suc p) ts (place ∷ earlier)
+pub serial_map-add_places : (splits : List Point) (head : Head) (p : ℕ) (batch : List Transaction)
+    (earlier : List Place)
+    → serial_map splits (add_places head p batch earlier) ≡ effects (serial_map splits earlier)
+    (mutations_in (committed_from splits head p batch earlier))
+serial_map-add_places splits head p [] earlier = refl
+serial_map-add_places splits head p (t ∷ ts) earlier =
+    serial_map-add_places splits head (suc p) ts (place ∷ earlier)
     ∙ ap (λ (map : Map). effects map (mutations_in others))
     (effects-if (serial_map splits earlier) is_committed t.mutations)
     ∙ sym (fold-append effect (serial_map splits earlier) (if is_committed then t.mutations else [])
@@ -150,24 +150,24 @@ serial_map-add_places splits version moves p (t ∷ ts) earlier =
     (sym (map-append (λ (sent : ℕ × Mutation). sent.1) (if is_committed then at_place p t.mutations else []) others))
   where
     place : Place
-    place = placed version moves t
+    place = placed head p t
 
     is_committed : Bool
     is_committed = committed splits earlier place
 
     others : Body
-    others = committed_from splits version moves (suc p) ts (place ∷ earlier)
+    others = committed_from splits head (suc p) ts (place ∷ earlier)
 
 -- with an entry's places no place has a version above the entry's
-pub at_most-add_places : (version : ℕ) (moves : List Stamped) (batch : List Transaction) (earlier : List Place)
-    → AtMost version earlier
-    → AtMost version (add_places version moves batch earlier)
-at_most-add_places version moves batch earlier at_most =
-    let added = add_places-newer version moves batch earlier in
-    subst (AtMost version) (sym added.1)
-    (all-append (λ (place : Place). place.version ≤ version) added.0 earlier
-    (all-weaken _ (λ (place : Place). place.version ≤ version) (λ (place : Place) same. omega (arith, same)) added.0
-    added.2) at_most)
+pub at_most-add_places : (head : Head) (p : ℕ) (batch : List Transaction) (earlier : List Place)
+    → AtMost head.version earlier
+    → AtMost head.version (add_places head p batch earlier)
+at_most-add_places head p batch earlier at_most =
+    let added = add_places-newer head p batch earlier in
+    subst (AtMost head.version) (sym added.1)
+    (all-append (λ (place : Place). place.version ≤ head.version) added.0 earlier
+    (all-weaken _ (λ (place : Place). place.version ≤ head.version) (λ (place : Place) same. omega (arith, same))
+    added.0 added.2) at_most)
 
 -- at most v is at most a greater number
 pub at_most-more : (v w : ℕ) (places : List Place) → v ≤ w → AtMost v places → AtMost w places
@@ -191,23 +191,23 @@ value-message splits range v x inside seen entry at_most = ⊎_elim
     ∙ ap (λ (now : List Place). fold (value_after x) (get (serial_map splits now) x) body)
     (up_to-all v seen.places (at_most-more entry.version v seen.places up at_most))
     ∙ sym (get-effects (serial_map splits seen.places) body x)
-    ∙ ap (λ (map : Map). get map x) (sym (serial_map-add_places splits entry.version moves 0 entry.batch seen.places))
+    ∙ ap (λ (map : Map). get map x) (sym (serial_map-add_places splits head 0 entry.batch seen.places))
     ∙ ap (λ (now : List Place). get (serial_map splits now) x)
     (sym (up_to-all v places
     (at_most-more entry.version v places up
-    (at_most-add_places entry.version moves entry.batch seen.places at_most)))))
-    (λ above. let added = add_places-newer entry.version moves entry.batch seen.places in
+    (at_most-add_places head 0 entry.batch seen.places at_most)))))
+    (λ above. let added = add_places-newer head 0 entry.batch seen.places in
     cond-false _ _ _ above
     ∙ ap (λ (now : List Place). get (serial_map splits now) x)
     (sym (ap (up_to v) added.1
     ∙ up_to-above v entry.version added.0 seen.places (leb-false entry.version v above) added.2)))
     (cases_Bool (nat_le entry.version v))
   where
-    moves : List Stamped
-    moves = add_moves entry.version entry.moves seen.moves
+    head : Head
+    head = head_of seen entry
 
     places : List Place
-    places = add_places entry.version moves entry.batch seen.places
+    places = add_places head 0 entry.batch seen.places
 
     body : List Mutation
     body = mutations_in (committed_in splits seen entry)
@@ -225,7 +225,7 @@ value-messages splits range v x inside resolvers last seen (entry ∷ book) at_m
     (messages_after splits range (add_entry seen entry) book))
     (value-message splits range v x inside seen entry here)
     ∙ value-messages splits range v x inside resolvers entry.version (add_entry seen entry) book
-    (at_most-add_places entry.version (add_moves entry.version entry.moves seen.moves) entry.batch seen.places here)
+    (at_most-add_places (head_of seen entry) 0 entry.batch seen.places here)
     entries.4
 
 -- a shard's messages leave at each point of its range what stands there on the serial map
@@ -261,7 +261,7 @@ at_most-entries : (resolvers last : ℕ) (seen : Seen) (book : List Entry) → A
 at_most-entries resolvers last seen [] at_most entries = at_most
 at_most-entries resolvers last seen (entry ∷ book) at_most entries =
     at_most-entries resolvers entry.version (add_entry seen entry) book
-    (at_most-add_places entry.version (add_moves entry.version entry.moves seen.moves) entry.batch seen.places
+    (at_most-add_places (head_of seen entry) 0 entry.batch seen.places
     (at_most-more last entry.version seen.places (le_of_lt entries.0) at_most)) entries.4
 
 -- a shard goes on from the serial map at its version

@@ -1,5 +1,5 @@
 -- The book, read as places with all that a rule about a place looks at.
-use Rattle.std.specs.Prelude.{ℕ, List, [], ◌∷◌, fold, take}
+use Rattle.std.specs.Prelude.{ℕ, suc, List, [], ◌∷◌, fold, take}
 use Rattle.fdb_keys.specs.Ranges.{Range}
 use Rattle.fdb_txn.specs.declared.entry.Move.{Move}
 use Rattle.fdb_txn.specs.declared.entry.Entry.{Entry}
@@ -11,11 +11,16 @@ pub record Stamped : Type 0 where
   pub range : Range
   pub target : ℕ
 
--- a transaction at its place, with the version of its entry and all moves through that version, the
--- newest first
+-- what all places of an entry share: its version, and all moves through that version, the newest first
+pub record Head : Type 0 where
+  pub version : ℕ
+  pub moves : List Stamped
+
+-- a transaction at its place, with what its entry's head says and the place's number in the entry
 pub record Place : Type 0 where
   pub version : ℕ
   pub moves : List Stamped
+  pub number : ℕ
   pub transaction : Transaction
 
 -- along the book: all moves and all places so far, the newest first
@@ -32,19 +37,28 @@ add_moves version [] older = older
 add_moves version (move ∷ moves) older =
     add_moves version moves (record { version = version; range = move.range; target = move.to } ∷ older)
 
--- the transaction at its place
-abbrev pub placed : ℕ → List Stamped → Transaction → Place
-placed version moves t = record { version = version; moves = moves; transaction = t }
+-- the head of an entry of this version, by all moves through it
+abbrev pub head_at : ℕ → List Stamped → Head
+head_at version moves = record { version = version; moves = moves }
 
--- the transactions of one entry before the earlier places
-abbrev pub add_places : ℕ → List Stamped → List Transaction → List Place → List Place
-add_places version moves [] earlier = earlier
-add_places version moves (t ∷ ts) earlier = add_places version moves ts (placed version moves t ∷ earlier)
+-- the head of an entry after what was seen before it
+abbrev pub head_of : Seen → Entry → Head
+head_of before entry = head_at entry.version (add_moves entry.version entry.moves before.moves)
+
+-- the transaction at the place with this number
+abbrev pub placed : Head → ℕ → Transaction → Place
+placed head number t =
+    record { version = head.version; moves = head.moves; number = number; transaction = t }
+
+-- the transactions of one entry, from place p on, before the earlier places
+abbrev pub add_places : Head → ℕ → List Transaction → List Place → List Place
+add_places head p [] earlier = earlier
+add_places head p (t ∷ ts) earlier = add_places head (suc p) ts (placed head p t ∷ earlier)
 
 abbrev pub add_entry : Seen → Entry → Seen
 add_entry seen entry =
-    let moves = add_moves entry.version entry.moves seen.moves in
-    record { moves = moves; places = add_places entry.version moves entry.batch seen.places }
+    let head = head_of seen entry in
+    record { moves = head.moves; places = add_places head 0 entry.batch seen.places }
 
 -- all moves and places of a book, of which the oldest entry is the first
 abbrev pub seen_of : List Entry → Seen

@@ -28,8 +28,8 @@ abbrev pub before_place : List Entry → ℕ → Entry → ℕ → List Entry
 before_place book n entry p = take n book ++ record entry { batch = take p entry.batch } ∷ []
 
 -- What is found by the numbers of a place is that place, with the places that were seen before it: the transaction is
--- the entry's, the places before it are all those of the book right before it, and in the whole book they and the
--- place come before newer ones.
+-- the entry's, the places before it are all those of the book right before it, in the whole book they and the place
+-- come before newer ones, and the place has its number in the entry.
 abbrev pub PlacesAreFoundInTheBook : Type 0
 PlacesAreFoundInTheBook =
     (book : List Entry) (n p : ℕ) (entry : Entry) (place : Place) (earlier : List Place)
@@ -37,6 +37,7 @@ PlacesAreFoundInTheBook =
     → (slice_get entry.batch p ≡ Some place.transaction)
     × (earlier ≡ (seen_of (before_place book n entry p)).places)
     × ((newer : List Place) × ((seen_of book).places ≡ newer ++ place ∷ earlier))
+    × (place.number ≡ p)
 
 -- Reads stand: what a committed transaction read at its read version stands there still where it commits. At
 -- every point of its read set, the map at its read version is the same as the map right before its place.

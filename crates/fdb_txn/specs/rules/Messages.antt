@@ -10,7 +10,7 @@ use Rattle.fdb_mutations.specs.Mutations.{names, named_range, value_after}
 use Rattle.fdb_txn.specs.declared.entry.Entry.{Entry}
 use Rattle.fdb_txn.specs.declared.tag_msg.TagMsg.{TagMsg}
 use Rattle.fdb_txn.specs.book.Transactions.{Transaction}
-use Rattle.fdb_txn.specs.book.Book.{Stamped, Place, Seen, nothing, add_moves, placed, add_entry, seen_of, last_version}
+use Rattle.fdb_txn.specs.book.Book.{Head, Place, Seen, nothing, head_of, placed, add_entry, seen_of, last_version}
 use Rattle.fdb_txn.specs.rules.Admission.{committed}
 use Rattle.fdb_txn.specs.book.History.{AreEntries}
 use Rattle.fdb_txn.specs.rules.SerialMap.{serial_map_at}
@@ -33,16 +33,15 @@ at_place p mutations = map (λ (mutation : Mutation). (p, mutation)) mutations
 
 -- the mutations of those transactions of a batch, from place p on, that are committed: by place, and then in the
 -- transaction's order
-abbrev pub committed_from : List Point → ℕ → List Stamped → ℕ → List Transaction → List Place → Body
-committed_from splits version moves p [] earlier = []
-committed_from splits version moves p (t ∷ ts) earlier =
-    (if committed splits earlier (placed version moves t) then at_place p t.mutations else [])
-    ++ committed_from splits version moves (suc p) ts (placed version moves t ∷ earlier)
+abbrev pub committed_from : List Point → Head → ℕ → List Transaction → List Place → Body
+committed_from splits head p [] earlier = []
+committed_from splits head p (t ∷ ts) earlier =
+    (if committed splits earlier (placed head p t) then at_place p t.mutations else [])
+    ++ committed_from splits head (suc p) ts (placed head p t ∷ earlier)
 
 -- the mutations of an entry's committed transactions
 abbrev pub committed_in : List Point → Seen → Entry → Body
-committed_in splits before entry =
-    committed_from splits entry.version (add_moves entry.version entry.moves before.moves) 0 entry.batch before.places
+committed_in splits before entry = committed_from splits (head_of before entry) 0 entry.batch before.places
 
 -- the message of an entry for the shard that holds the range: the mutations of the entry's committed
 -- transactions that meet the range, in order

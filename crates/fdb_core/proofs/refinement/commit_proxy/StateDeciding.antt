@@ -10,7 +10,7 @@ use Rattle.fdb_keys.specs.Points.{Point}
 use Rattle.fdb_keys.specs.declared.refusal.Refusal.{Refusal}
 use Rattle.fdb_keys.specs.declared.refusal.Refusal.TheVariants.{Stale}
 use Rattle.fdb_txn.specs.declared.entry.Entry.{Entry}
-use Rattle.fdb_txn.specs.book.Book.{Stamped, Place, Seen, placed, seen_before}
+use Rattle.fdb_txn.specs.book.Book.{Head, Place, Seen, head_of, placed, seen_before}
 use Rattle.fdb_txn.specs.book.History.{AreEntries}
 use Rattle.fdb_txn.specs.book.Transactions.{Transaction}
 use Rattle.fdb_log.specs.declared.message.LogMsg.{LogMsg}
@@ -31,7 +31,7 @@ use Rattle.fdb_proxy.specs.Logging.{answers_by}
 use Rattle.fdb_proxy.specs.Parting.{AreItems}
 use Rattle.fdb_proxy.specs.Resolving as resolving
 use Rattle.fdb_proxy.specs.Resolving.{with_verdicts, are_on, are_on_part, has_not_come, asks}
-use Rattle.fdb_proxy.specs.Verdicts.{verdicts_from, verdicts_on, moves_through, is_needed, outcomes_on}
+use Rattle.fdb_proxy.specs.Verdicts.{verdicts_from, verdicts_on, is_needed, outcomes_on}
 use Rattle.fdb_core.specs.declared.roles.commit_proxy.CommitProxyRole.{CommitProxyRole}
 use Rattle.fdb_machine.specs.machine.CommitProxySteps.{awaits, with_received, is_resolving, is_logging}
 use Rattle.fdb_machine.specs.machine.Machine.{is_set, first_missing}
@@ -45,19 +45,18 @@ use Rattle.fdb_core.proofs.refinement.commit_proxy.Fronts.{StageTold, stage-told
 use Rattle.fdb_core.proofs.refinement.commit_proxy.StateStages.{exactly-by, awaited, same-test, staged, seen-staged}
 
 -- the rule's verdicts on a batch are on just the places of the resolver's items
-on-items : (splits : List Point) (moves : List Stamped) (i version p : ℕ) (batch : List Transaction)
-    (earlier : List Place) (items : List Item) → AreItems splits moves i version p batch items
-    → are_on items (verdicts_from splits version moves i batch earlier p) ≡ true
-on-items splits moves i version p [] earlier items are = rw are refl
-on-items splits moves i version p (t ∷ ts) earlier items are = ⊎_elim
+on-items : (splits : List Point) (head : Head) (i p : ℕ) (batch : List Transaction) (earlier : List Place)
+    (items : List Item) → AreItems splits head i p batch items
+    → are_on items (verdicts_from splits head i batch earlier p) ≡ true
+on-items splits head i p [] earlier items are = rw are refl
+on-items splits head i p (t ∷ ts) earlier items are = ⊎_elim
     (λ asked. let its = asked.1 in
-    let place = placed version moves t in
+    let place = placed head p t in
     rw (its.2, asked.0) (and_from (its.0.place == p)
-    (are_on its.1 (verdicts_from splits version moves i ts (place ∷ earlier) (suc p)))
+    (are_on its.1 (verdicts_from splits head i ts (place ∷ earlier) (suc p)))
     (eq-eqb its.0.place p its.3)
-    (on-items splits moves i version (suc p) ts (place ∷ earlier) its.1 its.5)))
-    (λ unasked. rw unasked.0
-    (on-items splits moves i version (suc p) ts (placed version moves t ∷ earlier) items unasked.1))
+    (on-items splits head i (suc p) ts (place ∷ earlier) its.1 its.5)))
+    (λ unasked. rw unasked.0 (on-items splits head i (suc p) ts (placed head p t ∷ earlier) items unasked.1))
     are
 
 -- whose verdicts haven't come has no flag set
@@ -89,8 +88,8 @@ module _ (config : Config) (book : List Entry) (known : Known) (role : CommitPro
         ≡ verdicts_on config.resolver_splits verdicts.resolver (seen_before book role.entry) its =
         said.answers ∙ ap₂ (λ (n : ℕ) (e : Entry).
         verdicts_on config.resolver_splits verdicts.resolver (seen_before book n) e) (sym same) entry_is in
-        rw (part.1, answers) (on-items config.resolver_splits (moves_through (seen_before book role.entry) its)
-        verdicts.resolver its.version 0 its.batch (seen_before book role.entry).places part.0.items
+        rw (part.1, answers) (on-items config.resolver_splits (head_of (seen_before book role.entry) its)
+        verdicts.resolver 0 its.batch (seen_before book role.entry).places part.0.items
         (is.parts.each verdicts.resolver part.0 part.1).items)
 
     same-awaited : (its : Entry) (batch : Unheard) → batch.position.index ≡ role.entry

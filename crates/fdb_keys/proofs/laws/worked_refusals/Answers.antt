@@ -29,6 +29,7 @@ returns-clause-codes c = (
   refl,
   refl,
   refl,
+  refl,
 )
 
 pub returns-clause-keys : goal.returns-clause-keys
@@ -53,6 +54,7 @@ returns-clause-ranges c = (
 
 pub returns-clause-names : goal.returns-clause-names
 returns-clause-names c = (
+  refl,
   refl,
   refl,
   refl,

@@ -14,8 +14,8 @@ returns-clause-notes c = (
   refl,
   refl,
   (λ same. let one : 1 ≡ 0 = ap (λ (it : Tally). it.refused) same in absurd (omega (arith, one))),
-  (λ same. let one : 1 ≡ 0 = ap (λ (it : Tally). get_or it.refusals 11 0) same in absurd (omega (arith, one))),
-  (λ same. let one : 1 ≡ 0 = ap (λ (it : Tally). get_or it.refusals 11 0) same in absurd (omega (arith, one))),
+  (λ same. let one : 1 ≡ 0 = ap (λ (it : Tally). get_or it.refusals 12 0) same in absurd (omega (arith, one))),
+  (λ same. let one : 1 ≡ 0 = ap (λ (it : Tally). get_or it.refusals 12 0) same in absurd (omega (arith, one))),
   (λ same. let one : 1 ≡ 0 = ap (λ (it : Tally). it.refused) same in absurd (omega (arith, one))),
   (λ same. let one : 1 ≡ 0 = ap (λ (it : Tally). it.read_only) same in absurd (omega (arith, one))),
 )

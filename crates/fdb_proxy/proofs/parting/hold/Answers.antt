@@ -12,7 +12,7 @@ returns c held before below ends =
     c.index_mut.ensures.value
     ∙ ap (λ (list : List Item). get_or list c.in_ok-index.index c.index_mut.result.now) opened.1
     ∙ get_or_at before opened.0 [] c.index_mut.result.now c.in_ok-index.index (sym opened.2) in
-    ends-held c.args.place c.args.head held before c.open_item.new.items.items _ c.in_ok-index.index opened.0
+    ends-held c.args.place c.args.reading held before c.open_item.new.items.items _ c.in_ok-index.index opened.0
     c.add_to_item.new.item c.args.kind c.args.part.ranges c.requires.some opened.1 opened.2 refl
-    (c.in_ok-add_to_item.ensures c.args.place c.args.head held
-    (subst (IsItemWith c.args.place c.args.head held) (sym same) opened.3))
+    (c.in_ok-add_to_item.ensures c.args.place c.args.reading held
+    (subst (IsItemWith c.args.place c.args.reading held) (sym same) opened.3))

@@ -31,11 +31,11 @@ loop-part-preserved c =
           ∙ c.loop-part.invariant.left;
       owned = All-tail (λ (one : Owned). (one.resolver < resolvers) × (has_points one.ranges ≡ true)) part rest all;
       count = length-set c.loop-part.lists part.resolver c.hold.new.items ∙ c.loop-part.invariant.count;
-      held = λ i held earlier few below ends. held-next c.args.place c.args.head c.args.kind before _ part i held
+      held = λ i held earlier few below ends. held-next c.args.place c.args.reading c.args.kind before _ part i held
           earlier c.loop-part.lists _ c.hold.new.items refl within refl
           (c.loop-part.invariant.held i held earlier few below ends)
           (λ one its. c.in_ok-hold.ensures one earlier below
-          (subst (EndsWithItem c.args.place c.args.head one earlier) same its));
+          (subst (EndsWithItem c.args.place c.args.reading one earlier) same its));
     }
 
 pub returns-clause-answers : goal.returns-clause-answers
@@ -48,6 +48,6 @@ returns-clause-answers c i held before within below ends =
     ∙ ap (λ (rest : List Owned). given ++ rest) (sym none)
     ∙ c.loop-part.invariant.left in
     subst (λ (parts : List Owned).
-    EndsWithItem c.args.place c.args.head (with_parts c.args.kind parts i held) before
+    EndsWithItem c.args.place c.args.reading (with_parts c.args.kind parts i held) before
     (items_at c.loop-part.lists i)) all
     (c.loop-part.invariant.held i held before within below ends)

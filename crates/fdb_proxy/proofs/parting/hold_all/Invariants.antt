@@ -16,6 +16,6 @@ invariant-loop-part l =
       count : length l.lists ≡ length l.fn.lists;
       held : (i : ℕ) (held : Held) (before : List Item)
           → i < length l.fn.lists → AllByRecursion (IsBelow l.place) before
-          → EndsWithItem l.place l.head held before (items_at l.fn.lists i)
-          → EndsWithItem l.place l.head (with_parts l.kind l.yielded i held) before (items_at l.lists i);
+          → EndsWithItem l.place l.reading held before (items_at l.fn.lists i)
+          → EndsWithItem l.place l.reading (with_parts l.kind l.yielded i held) before (items_at l.lists i);
     }

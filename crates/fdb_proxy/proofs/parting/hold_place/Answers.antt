@@ -9,9 +9,9 @@ returns-clause-answers c i within below =
     let place = c.args.place in
     let spread = c.args.spread in
     let before = items_at c.args.lists.now i in
-    let reads : EndsWithItem place spread.head (with_parts Reads spread.reads i nothing_held) before
+    let reads : EndsWithItem place spread.reading (with_parts Reads spread.reads i nothing_held) before
     (items_at c.hold_all.new.lists i) =
-    c.in_ok-hold_all.ensures.answers i nothing_held before within below (ends-at_first place spread.head before) in
+    c.in_ok-hold_all.ensures.answers i nothing_held before within below (ends-at_first place spread.reading before) in
     let count = c.in_ok-hold_all.ensures.count in
     place-whole place spread i before _ below
     (c.in_ok-hold_all-2.ensures.answers i (with_parts Reads spread.reads i nothing_held) before

@@ -4,7 +4,7 @@ use Rattle.std.specs.List.{AllByRecursion}
 use Rattle.std.specs.declared.alloc.Global.{Global}
 use Rattle.std.proofs.lemmas.List.{length-take-le, take_at, take_more}
 use Rattle.fdb_txn.specs.book.Transactions.{Transaction}
-use Rattle.fdb_txn.specs.book.Book.{placed}
+use Rattle.fdb_txn.specs.book.Book.{head_at, placed}
 use Rattle.fdb_resolver.specs.declared.part.Item.{Item}
 use Rattle.fdb_owners.specs.Ownership.{resolvers_of}
 use Rattle.fdb_proxy.specs.Held.{IsBelow, items_at}
@@ -42,13 +42,15 @@ loop-place-preserved c =
           AllByRecursion (IsBelow (place + 1)) (items_at lists i)) (sym whole)
           (subst (λ (n : ℕ). AllByRecursion (IsBelow n) (items_at now i)) next (given i within).2);
       are = λ i within moves agrees.
+          let head = head_at version moves in
           subst (λ (lists : List (Vec Item Global)).
-          AreItems splits moves i version 0 (take (place + 1) batch) (items_at lists i)) (sym whole)
-          (subst (λ (all : List Transaction). AreItems splits moves i version 0 all (items_at now i)) (sym longer)
-          (subst (AreItems splits moves i version 0 (before ++ txn ∷ [])) (sym (given i within).1)
-          (items-next splits moves i version before txn place (items_at c.as_mut_slice.result.now i) (given i within).0
+          AreItems splits head i 0 (take (place + 1) batch) (items_at lists i)) (sym whole)
+          (subst (λ (all : List Transaction). AreItems splits head i 0 all (items_at now i)) (sym longer)
+          (subst (AreItems splits head i 0 (before ++ txn ∷ [])) (sym (given i within).1)
+          (items-next splits head i before txn place (items_at c.as_mut_slice.result.now i) (given i within).0
           count
-          (subst (λ (lists : List (Vec Item Global)). AreItems splits moves i version 0 before (items_at lists i))
+          (subst (λ (lists : List (Vec Item Global)). AreItems splits head i 0 before (items_at lists i))
           (sym old) (c.loop-place.invariant.are i within moves agrees))
-          ((given i within).3 splits (placed version moves txn) (c.in_ok-spread.ensures.spread moves agrees)))));
+          ((given i within).3 splits (placed head place txn)
+          (c.in_ok-spread.ensures.spread moves place agrees)))));
     }

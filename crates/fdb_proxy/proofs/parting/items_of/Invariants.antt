@@ -1,6 +1,6 @@
 use Rattle.std.proofs.Common.{◌≡◌, ◌<◌, ℕ, List, length, take}
 use Rattle.std.specs.List.{AllByRecursion}
-use Rattle.fdb_txn.specs.book.Book.{Stamped}
+use Rattle.fdb_txn.specs.book.Book.{Stamped, head_at}
 use Rattle.fdb_owners.specs.Ownership.{resolvers_of}
 use Rattle.fdb_owners.specs.OwnersLaws.{AgreesWith}
 use Rattle.fdb_proxy.specs.Held.{IsBelow, items_at}
@@ -13,5 +13,5 @@ invariant-loop-place l =
       count : length l.lists.items ≡ resolvers_of l.owners;
       below : (i : ℕ) → i < resolvers_of l.owners → AllByRecursion (IsBelow l.place) (items_at l.lists.items i);
       are : (i : ℕ) → i < resolvers_of l.owners → (moves : List Stamped) → AgreesWith l.owners moves
-          → AreItems l.owners.splits moves i l.version 0 (take l.place l.batch) (items_at l.lists.items i);
+          → AreItems l.owners.splits (head_at l.version moves) i 0 (take l.place l.batch) (items_at l.lists.items i);
     }

@@ -12,19 +12,19 @@ returns-clause-answers c held before below ends =
     c.ends_at.ensures
     ∙ ap (λ (list : List Item). is_at c.args.place (slice_get list (length list - 1))) c.as_slice.ensures.value in
     elim c.if-not-ends_at.branch [
-      | then-not-ends_at+in_ok-push w ↦ opened-new c.args.place c.args.head held before c.args.items.now.items
+      | then-not-ends_at+in_ok-push w ↦ opened-new c.args.place c.args.reading held before c.args.items.now.items
           c.if-not-ends_at.items.items _ below ends
           record {
             place = c.args.place;
-            read_version = c.args.head.read_version;
-            has_reads = c.args.head.has_reads;
+            read_version = c.args.reading.read_version;
+            has_reads = c.args.reading.has_reads;
             reads = w.new.result;
             writes = w.new-then-not-ends_at.result;
           }
           (sym told ∙ w.if-not-ends_at.true)
           (ap (λ v. v.items) w.items-is ∙ w.in_ok-push.ensures.items) (search rules) refl refl refl w.new.ensures
           w.new-then-not-ends_at.ensures
-      | else-not-ends_at w ↦ opened-old c.args.place c.args.head held before c.args.items.now.items
+      | else-not-ends_at w ↦ opened-old c.args.place c.args.reading held before c.args.items.now.items
           c.if-not-ends_at.items.items _ below ends (sym told ∙ w.if-not-ends_at.false)
           (ap (λ v. v.items) w.items-is) (search rules)
     ]

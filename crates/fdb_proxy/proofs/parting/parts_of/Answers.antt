@@ -1,5 +1,6 @@
 use Rattle.std.proofs.Common.{◌≡◌, ◌∙◌, sym, subst, ◌<◌, length, arith}
 use Rattle.std.proofs.lemmas.Option.{slice_get_within}
+use Rattle.fdb_txn.specs.book.Book.{head_at}
 use Rattle.fdb_owners.specs.Ownership.{resolvers_of}
 use Rattle.fdb_proxy.specs.Parting.{AreItems}
 use Rattle.fdb_proxy.proofs.parting.parts_of.Goals as goal
@@ -22,7 +23,7 @@ returns c moves agrees =
             index = with.index;
             version = with.version;
             prev = with.prev;
-            items = subst (AreItems splits moves i c.args.position.version 0 batch) (sym with.items)
+            items = subst (AreItems splits (head_at c.args.position.version moves) i 0 batch) (sym with.items)
                 (c.in_ok-lists.ensures.items.1 i within moves agrees);
           };
     }

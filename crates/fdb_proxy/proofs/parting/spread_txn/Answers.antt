@@ -9,8 +9,8 @@ pub returns-clause-owned : goal.returns-clause-owned
 returns-clause-owned c = record { reads = c.in_ok-reads.ensures.owned; writes = c.in_ok-writes.ensures.owned }
 
 pub returns-clause-spread : goal.returns-clause-spread
-returns-clause-spread c moves agrees =
-    spread-by_book c.args.owners.now moves c.args.version c.args.txn.now _ agrees c.requires.kept
+returns-clause-spread c moves number agrees =
+    spread-by_book c.args.owners.now moves c.args.version number c.args.txn.now _ agrees c.requires.kept
     c.read_version-read_version.ensures
     (c.has_points.ensures ∙ ap has_points c.reads-3.ensures)
     (λ i x. c.in_ok-reads.ensures.held i x

@@ -6,7 +6,7 @@ use Rattle.fdb_keys.specs.declared.refusal.Refused.{Refused}
 use Rattle.fdb_keys.specs.Points.{point_lt}
 use Rattle.fdb_keys.specs.Insertion as insertion
 use Rattle.fdb_txn.specs.book.Transactions.{Transaction}
-use Rattle.fdb_txn.specs.book.Book.{Place, placed}
+use Rattle.fdb_txn.specs.book.Book.{Place, head_at, placed}
 use Rattle.fdb_txn.specs.book.Places.{place_at}
 use Rattle.fdb_txn.specs.rules.Admission.{committed, is_fresh}
 use Rattle.fdb_client.specs.Programs.{commit_request_of}
@@ -37,13 +37,13 @@ returns-clause-sessions c = (
 
 -- the two places of the entry, and the place of the far one
 abbrev first : Place
-first = placed 100 [] (commit_request_of (reads_and_sets 0 None))
+first = placed (head_at 100 []) 0 (commit_request_of (reads_and_sets 0 None))
 
 abbrev second : Place
-second = placed 100 [] (commit_request_of (reads_and_sets 1 None))
+second = placed (head_at 100 []) 1 (commit_request_of (reads_and_sets 1 None))
 
 abbrev late : Place
-late = placed 5000001 [] (commit_request_of (reads_and_sets 1 None))
+late = placed (head_at 5000001 []) 0 (commit_request_of (reads_and_sets 1 None))
 
 -- there are no other places
 of-two : (entry place : ℕ) (there : Place × List Place) → place_at two_in_one_entry entry place ≡ Some there

@@ -10,5 +10,5 @@ returns-then-place-code c = sym
 
 pub returns : goal.returns
 returns c = sym
-    (position_or_len_is (λ (known : ℕ). known == c.args.code) refusal_codes 25 0 (omega arith) (search rules)
+    (position_or_len_is (λ (known : ℕ). known == c.args.code) refusal_codes 26 0 (omega arith) (search rules)
     (λ below. absurd (omega (arith, below))))
