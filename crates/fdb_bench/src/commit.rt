@@ -1,8 +1,9 @@
 // A commit proxy that commits batches, with nobody at its side: its resolvers say yes to all that they are asked, and
 // its log takes all that it is sent.
-ghost use Rattle.std.specs.Prelude.{◌<◌, ◌≤◌, ◌^◌, IfOk, IsTrue};
+ghost use Rattle.std.specs.Prelude.{◌≡◌, ◌<◌, ◌≤◌, ◌+◌, ◌-◌, ◌^◌, IfOk, IsTrue};
 ghost use Rattle.std.specs.List.{AllByRecursion};
 ghost use Rattle.fdb_txn.specs.book.Transactions.{Transaction};
+ghost use Rattle.fdb_txn.specs.Limits.{window};
 ghost use Rattle.fdb_bench.specs.Tickets.{AreMovesOf, IsOfMoves};
 
 use crate::numbers::{Fault, even_splits, one_range, random_range, shared};
@@ -46,7 +47,9 @@ pub(crate) fn measure<R: Clock>(
 }
 
 // The commit proxy of so many resolvers.
-fn proxy_with(alloc: Global, resolvers: u32) -> Result<CommitCore, Fault> {
+fn proxy_with(alloc: Global, resolvers: u32) -> Result<CommitCore, Fault>
+    ensures { IfOk result (λ core. core.proxy.owners.floor ≡ 0) }
+{
     let config = config_of(alloc, resolvers)?;
     let core = CommitCore::new(alloc, 0, &config)?;
     Ok(core)
@@ -58,7 +61,9 @@ fn commit_all<R: Clock>(
     alloc: Global,
     core: &mut CommitCore,
     setting: &Setting,
-) -> Result<Duration, Fault> {
+) -> Result<Duration, Fault>
+    requires { core.old.proxy.owners.floor ≡ 0 }
+{
     let mut random = Pcg32::new(1, 1);
     let begin = learn_moves(alloc, core, &mut random, setting.moves)?;
     let batches = setting.transactions.checked_div(setting.batch).unwrap_or(0);
@@ -94,7 +99,9 @@ fn learn_moves(
     random: &mut Pcg32,
     moves: u32,
 ) -> Result<u64, Refusal>
-    ensures { IfOk result (λ version. version ≤ 2 ^ 33) }
+    requires { core.old.proxy.owners.floor ≡ 0 }
+    ensures version { IfOk result (λ version. version ≤ 2 ^ 33) }
+    ensures floor { IfOk result (λ version. core.new.proxy.owners.floor ≤ version - window) }
 {
     for number in 0..moves {
         let version = u64::from(number) + 1;
@@ -148,7 +155,9 @@ fn commit_timed<R: Clock>(
     requests: Vec<Sealed>,
     prev: u64,
 ) -> Result<Duration, Fault>
-    requires { prev < 2 ^ 63 }
+    requires few { prev < 2 ^ 63 }
+    requires floor { core.old.proxy.owners.floor ≤ prev - window }
+    ensures { IfOk result (λ _. core.new.proxy.owners.floor ≤ (prev + 1000) - window) }
 {
     let ticket = ticket(alloc, prev + ADVANCE, None)?;
     let begin = Instant::now(rt)?;
@@ -173,7 +182,9 @@ fn moves_of(alloc: Global, version: u64, range: Option<KeyRange>) -> Result<Item
 
 // The ticket of the version, with a move of the range to the first resolver, if there is one.
 fn ticket(alloc: Global, version: u64, range: Option<KeyRange>) -> Result<Ticket, Refusal>
-    ensures { IfOk result IsOfMoves }
+    requires { 0 < version }
+    ensures version { IfOk result (λ ticket. ticket.version ≡ version) }
+    ensures moves { IfOk result IsOfMoves }
 {
     let moves = moves_of(alloc, version, range)?;
     let pending = shared(alloc, Items::new(alloc))?;
@@ -182,6 +193,7 @@ fn ticket(alloc: Global, version: u64, range: Option<KeyRange>) -> Result<Ticket
         index: 0,
         version,
         prev: version.saturating_sub(1),
+        horizon: version.saturating_sub(WINDOW),
         moves,
         pending,
     })
@@ -194,7 +206,9 @@ fn commit(
     requests: Vec<Sealed>,
     ticket: &Ticket,
 ) -> Result<(), Refusal>
-    requires { IsOfMoves ticket.now }
+    requires moves { IsOfMoves ticket.now }
+    requires floor { core.old.proxy.owners.floor ≤ ticket.now.horizon }
+    ensures { IfOk result (λ _. core.new.proxy.owners.floor ≤ ticket.now.horizon) }
 {
     submit_all(core, requests)?;
     let _batch = core.seal()?;
@@ -206,7 +220,9 @@ fn commit(
     Ok(())
 }
 
-fn submit_all(core: &mut CommitCore, requests: Vec<Sealed>) -> Result<(), Refusal> {
+fn submit_all(core: &mut CommitCore, requests: Vec<Sealed>) -> Result<(), Refusal>
+    ensures { IfOk result (λ _. core.new.proxy.owners.floor ≡ core.old.proxy.owners.floor) }
+{
     for request in requests {
         if let Err(refused) = core.submit(request) {
             return Err(refused.why);
@@ -217,7 +233,9 @@ fn submit_all(core: &mut CommitCore, requests: Vec<Sealed>) -> Result<(), Refusa
 
 // Has the proxy learn the ticket. Refused as `Chain` where the batch didn't read below its version.
 fn learn(core: &mut CommitCore, ticket: &Ticket) -> Result<(), Refusal>
-    requires { IsOfMoves ticket.now }
+    requires moves { IsOfMoves ticket.now }
+    requires floor { core.old.proxy.owners.floor ≤ ticket.now.horizon }
+    ensures { IfOk result (λ _. core.new.proxy.owners.floor ≤ ticket.now.horizon) }
 {
     if !reads_below(core.batch(), ticket.version) {
         return Err(Refusal::Chain);
@@ -236,7 +254,9 @@ fn reads_below(batch: &[Sealed], version: u64) -> bool
 }
 
 // All resolvers say yes to all that they are asked.
-fn ask(alloc: Global, core: &mut CommitCore) -> Result<(), Refusal> {
+fn ask(alloc: Global, core: &mut CommitCore) -> Result<(), Refusal>
+    ensures { IfOk result (λ _. core.new.proxy.owners.floor ≡ core.old.proxy.owners.floor) }
+{
     for part in core.parts()?.as_slice() {
         core.verdict(agree(alloc, part)?)?;
     }
@@ -256,7 +276,9 @@ fn agree(alloc: Global, part: &Part) -> Result<Verdicts, Refusal> {
 }
 
 // All logs take what they are sent.
-fn log(core: &mut CommitCore) -> Result<(), Refusal> {
+fn log(core: &mut CommitCore) -> Result<(), Refusal>
+    ensures { IfOk result (λ _. core.new.proxy.owners.floor ≡ core.old.proxy.owners.floor) }
+{
     for message in core.messages()?.as_slice() {
         core.logged(LogAck {
             log: message.log,

@@ -6,6 +6,7 @@ ghost use Rattle.fdb_bench.specs.Items.{AreItemsBelow};
 use crate::numbers::{Fault, one_range, shared};
 use fdb_keys::{Items, Refusal};
 use fdb_resolver::{Item, Part, ResolverCore};
+use fdb_txn::WINDOW;
 use rand_pcg::Pcg32;
 use std::alloc::Global;
 use std::time::{Clock, Duration, Instant};
@@ -57,6 +58,7 @@ fn part_of(alloc: Global, random: &mut Pcg32, index: u32) -> Result<Part, Refusa
         index,
         version,
         prev,
+        horizon: version.saturating_sub(WINDOW),
         items,
     })
 }

@@ -1,10 +1,10 @@
 -- The book with an entry that may be appended to it.
 use Rattle.std.proofs.Common.{◌≡◌, ◌≢◌, ◌∙◌, sym, ap, refl, subst, ⊎_elim, ℕ, ◌<◌, ◌≤◌, ◌+◌, append_assoc, Bool, true}
-use Rattle.std.proofs.Common.{false, cond, List, [], ◌∷◌, ◌++◌, length, Option, Some, None, nat_lt, arith}
+use Rattle.std.proofs.Common.{false, cond, List, [], ◌∷◌, ◌++◌, length, Option, Some, None, nat_le, nat_lt, arith}
 use Rattle.std.specs.Prelude.{◌==◌, ◌&&◌}
 use Rattle.std.specs.List.{AllByRecursion, list_all}
 use Rattle.std.proofs.lemmas.Bool.{cases_Bool, cond-true, cond-false, and_parts, eqb-true, eqb-false}
-use Rattle.std.proofs.lemmas.Bool.{false_from_ne_true, ltb-true, ltb-false}
+use Rattle.std.proofs.lemmas.Bool.{false_from_ne_true, leb-true, ltb-true, ltb-false}
 use Rattle.std.proofs.lemmas.List.{append-nil}
 use Rattle.std.proofs.lemmas.List.Sums.{sum_by_push}
 use Rattle.fdb_keys.specs.declared.refusal.Refusal.{Refusal}
@@ -12,17 +12,17 @@ use Rattle.fdb_keys.specs.declared.refusal.Refusal.TheVariants.{Chain}
 use Rattle.fdb_txn.specs.declared.entry.Entry.{Entry}
 use Rattle.fdb_txn.specs.declared.txn_id.TxnId.{TxnId}
 use Rattle.fdb_txn.specs.book.Transactions.{Transaction}
-use Rattle.fdb_txn.specs.book.Book.{last_version}
-use Rattle.fdb_txn.specs.book.History.{ReadsBelow, IsSealed}
+use Rattle.fdb_txn.specs.book.Book.{last_version, last_horizon}
+use Rattle.fdb_txn.specs.book.History.{ReadsBelow, IsSealed, HasHorizonBelow}
 use Rattle.fdb_txn.specs.book.Once.{same_id, times_with_id, times_in_book}
-use Rattle.fdb_book.specs.Appending.{goes_on, ids_fault, append_fault}
+use Rattle.fdb_book.specs.Appending.{has_next_horizon, goes_on, ids_fault, append_fault}
 use Rattle.fdb_book.specs.Fronts.{IsLinkedBook}
 use Rattle.fdb_book.specs.Ids.{is_among, repeated_after, repeated_place}
-use Rattle.fdb_book.proofs.BookLemmas.{linked-append, all-append}
+use Rattle.fdb_book.proofs.BookLemmas.{linked-append, rise-append, all-append}
 
 -- where there is no fault, each part of the rule is met
 record IsFaultless (capacity : ℕ) (book : List Entry) (entry : Entry) : Type 0 where
-  continues : goes_on (last_version book) entry ≡ true
+  continues : goes_on (last_version book) (last_horizon book) entry ≡ true
   new : repeated_place book entry.batch ≡ None
   room : length book ≢ capacity
 
@@ -34,21 +34,24 @@ ids-met None false none = (refl, refl)
 
 faultless : (capacity : ℕ) (book : List Entry) (entry : Entry) → append_fault capacity book entry ≡ None
     → IsFaultless capacity book entry
-faultless capacity book entry none = ⊎_elim met chained (cases_Bool (goes_on (last_version book) entry))
+faultless capacity book entry none = ⊎_elim met chained (cases_Bool continues)
   where
+    continues : Bool
+    continues = goes_on (last_version book) (last_horizon book) entry
+
     faults : Option Refusal
     faults = ids_fault (repeated_place book entry.batch) (length book == capacity)
 
-    met : goes_on (last_version book) entry ≡ true → IsFaultless capacity book entry
+    met : continues ≡ true → IsFaultless capacity book entry
     met on =
         let ids = ids-met (repeated_place book entry.batch) (length book == capacity)
-        (sym (cond-true (goes_on (last_version book) entry) faults (Some Chain) on) ∙ none) in
+        (sym (cond-true continues faults (Some Chain) on) ∙ none) in
         record { continues = on; new = ids.0; room = eqb-false (length book) capacity ids.1 }
 
-    chained : goes_on (last_version book) entry ≡ false → IsFaultless capacity book entry
+    chained : continues ≡ false → IsFaultless capacity book entry
     chained off =
         let refused : Some Chain ≡ None =
-        sym (cond-false (goes_on (last_version book) entry) faults (Some Chain) off) ∙ none in cc
+        sym (cond-false continues faults (Some Chain) off) ∙ none in cc
 
 -- where there is no fault, there is a cell left
 pub append-room : (capacity : ℕ) (book : List Entry) (entry : Entry) → append_fault capacity book entry ≡ None
@@ -114,13 +117,19 @@ append-book capacity book entry linked none is_sealed =
     let met : IsFaultless capacity book entry = faultless capacity book entry none in
     let reads = list_all (λ (t : Transaction). nat_lt t.read entry.version) entry.batch in
     let is_above = nat_lt (last_version book) entry.version in
-    let chain = and_parts (entry.prev == last_version book) (is_above && reads) met.continues in
-    let above = and_parts is_above reads chain.1 in
+    let horizon = last_horizon book in
+    let is_next = has_next_horizon horizon entry in
+    let chain = and_parts (entry.prev == last_version book) (is_above && (is_next && reads)) met.continues in
+    let above = and_parts is_above (is_next && reads) chain.1 in
+    let next = and_parts is_next reads above.1 in
+    let horizons = and_parts (nat_le horizon entry.horizon) (nat_lt entry.horizon entry.version) next.0 in
     record {
       linked = linked-append 0 book entry linked.linked (ltb-true (last_version book) entry.version above.0)
           (eqb-true entry.prev (last_version book) chain.0);
-      reads = all-append ReadsBelow book entry linked.reads (reads-met entry.version entry.batch above.1);
+      reads = all-append ReadsBelow book entry linked.reads (reads-met entry.version entry.batch next.1);
       each_sealed = all-append IsSealed book entry linked.each_sealed is_sealed;
       ids = λ id. rw (sum_by_push (λ (e : Entry). times_with_id id e.batch) book entry)
           (once-after id book [] entry.batch met.new (omega (arith, linked.ids id)));
+      horizons = rise-append 0 book entry linked.horizons (leb-true horizon entry.horizon horizons.0);
+      below = all-append HasHorizonBelow book entry linked.below (ltb-true entry.horizon entry.version horizons.1);
     }

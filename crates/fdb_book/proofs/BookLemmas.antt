@@ -5,7 +5,7 @@ use Rattle.std.proofs.lemmas.List.{take-append-drop}
 use Rattle.std.proofs.lemmas.List.Sums.{sum_by-append}
 use Rattle.fdb_txn.specs.declared.entry.Entry.{Entry}
 use Rattle.fdb_txn.specs.declared.txn_id.TxnId.{TxnId}
-use Rattle.fdb_txn.specs.book.History.{AreLinked, ReadsBelow, IsSealed}
+use Rattle.fdb_txn.specs.book.History.{AreLinked, ReadsBelow, IsSealed, HorizonsRise, HasHorizonBelow}
 use Rattle.fdb_txn.specs.book.Once.{times_with_id, times_in_book}
 use Rattle.fdb_book.specs.Fronts.{IsLinkedBook}
 
@@ -24,6 +24,19 @@ linked-first : (last : ℕ) (first later : List Entry) → AreLinked last (first
 linked-first last [] later linked = tt
 linked-first last (entry ∷ first) later linked =
     (linked.0, linked.1, linked-first entry.version first later linked.2)
+
+-- the horizon of the last of these entries after the horizon
+abbrev pub horizon_after : ℕ → List Entry → ℕ
+horizon_after last book = fold (λ (last : ℕ) (entry : Entry). entry.horizon) last book
+
+pub rise-append : (last : ℕ) (book : List Entry) (entry : Entry) → HorizonsRise last book
+    → horizon_after last book ≤ entry.horizon → HorizonsRise last (book ++ entry ∷ [])
+rise-append last [] entry rise above = (above, tt)
+rise-append last (first ∷ book) entry rise above = (rise.0, rise-append first.horizon book entry rise.1 above)
+
+rise-first : (last : ℕ) (first later : List Entry) → HorizonsRise last (first ++ later) → HorizonsRise last first
+rise-first last [] later rise = tt
+rise-first last (entry ∷ first) later rise = (rise.0, rise-first entry.horizon first later rise.1)
 
 all-first : {X : Type 0} (P : X → Type 0) (first later : List X) → AllByRecursion P (first ++ later)
     → AllByRecursion P first
@@ -45,6 +58,8 @@ book-first first later book = record {
   reads = all-first ReadsBelow first later book.reads;
   each_sealed = all-first IsSealed first later book.each_sealed;
   ids = λ id. grind (arith, times-first id first later, book.ids id);
+  horizons = rise-first 0 first later book.horizons;
+  below = all-first HasHorizonBelow first later book.below;
 }
 
 -- the first entries of a book are a book

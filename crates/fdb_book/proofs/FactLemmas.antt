@@ -156,14 +156,23 @@ read-shown known next len name entry value book counted view more read =
     (some-same (name, entry) (name, value) (sym (next-at known next len name entry counted more) ∙ read))
     ∙ ap (λ (them : List Entry). them ++ value ∷ []) view
 
--- the version of the last entry is that of the one whose number is one less than there are
+-- a number of the last entry is that of the one whose place is one less than there are
+last-number : (of : Entry → ℕ) (last : ℕ) (book : List Entry) (n : ℕ) (entry : Entry) → length book ≡ suc n
+    → slice_get book n ≡ Some entry → fold (λ (last : ℕ) (entry : Entry). of entry) last book ≡ of entry
+last-number of last [] n entry counted found = absurd (search (arith, counted))
+last-number of last (first ∷ []) zero entry counted found = ap of (some-same first entry found)
+last-number of last (first ∷ second ∷ book) zero entry counted found = absurd (search (arith, counted))
+last-number of last (first ∷ book) (suc n) entry counted found =
+    last-number of (of first) book n entry (search (arith, counted)) found
+
+-- so its version is, and its horizon
 pub last-version : (last : ℕ) (book : List Entry) (n : ℕ) (entry : Entry) → length book ≡ suc n
     → slice_get book n ≡ Some entry → fold (λ (last : ℕ) (entry : Entry). entry.version) last book ≡ entry.version
-last-version last [] n entry counted found = absurd (search (arith, counted))
-last-version last (first ∷ []) zero entry counted found = ap (λ (it : Entry). it.version) (some-same first entry found)
-last-version last (first ∷ second ∷ book) zero entry counted found = absurd (search (arith, counted))
-last-version last (first ∷ book) (suc n) entry counted found =
-    last-version first.version book n entry (search (arith, counted)) found
+last-version = last-number (λ (entry : Entry). entry.version)
+
+pub last-horizon : (last : ℕ) (book : List Entry) (n : ℕ) (entry : Entry) → length book ≡ suc n
+    → slice_get book n ≡ Some entry → fold (λ (last : ℕ) (entry : Entry). entry.horizon) last book ≡ entry.horizon
+last-horizon = last-number (λ (entry : Entry). entry.horizon)
 
 take-past : (count : ℕ) (xs : List Entry) → length xs ≤ count → take count xs ≡ xs
 take-past zero [] within = refl

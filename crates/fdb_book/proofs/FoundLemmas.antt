@@ -1,18 +1,19 @@
 -- What an append that finds an entry in its cell needs.
 use Rattle.std.proofs.Common.{◌≡◌, ◌≢◌, ◌∙◌, sym, refl, ap, subst, ℕ, ◌<◌, ◌≤◌, Bool, true, false, List, [], ◌∷◌}
-use Rattle.std.proofs.Common.{◌++◌, length, ◌+◌, Option, Some, None, Ok, rules, arith}
+use Rattle.std.proofs.Common.{◌++◌, length, ◌+◌, Option, Some, None, Ok, Err, inr, rules, arith}
 use Rattle.std.specs.Bool.{Decides}
 use Rattle.std.specs.Option.{MatchOption}
 use Rattle.std.proofs.lemmas.List.{length-append}
 use Rattle.fdb_keys.specs.Answers.{Answers}
 use Rattle.fdb_keys.specs.declared.refusal.Refusal.{Refusal}
+use Rattle.fdb_keys.specs.declared.refusal.Refusal.TheVariants.{NoMemory, Taken}
 use Rattle.fdb_txn.specs.declared.entry.Entry.{Entry}
 use Rattle.fdb_txn.specs.book.History.{IsSealed}
 use Rattle.fdb_book.specs.Fronts.{IsLinkedBook, IsFront, Known, AreOfFirst, shown}
 use Rattle.fdb_book.specs.Ids.{Latest, Covers}
 use Rattle.fdb_book.proofs.AppendLemmas.{append-room, append-book}
 use Rattle.fdb_book.proofs.FactLemmas.{shown-count}
-use Rattle.fdb_book.specs.Appending.{append_fault}
+use Rattle.fdb_book.specs.Appending.{append_fault, Found, found_behind, Appends}
 
 -- what is decided not to hold doesn't
 pub decided-false : {P : Type 0} {test : Bool} → test ≡ false → Decides test P → P → ⊥
@@ -60,3 +61,20 @@ pub given-has : {T : Type 0} (given : T) (fault : Option Refusal) (P : T → Typ
     → Answers (Ok given) fault P → P given
 given-has given None P answers = answers
 given-has given (Some fault) P answers = absurd answers
+
+-- an entry that may not stand there is found without a front
+pub taken-back : {T : Type 0} (capacity : ℕ) (book : List Entry) (entry other : Entry) (why : Refusal) (P : T → Type 0)
+    (back : Found) → append_fault capacity book entry ≡ None → other ≢ entry
+    → Answers (Err why) (append_fault capacity book other) P → why ≢ NoMemory
+    → back ≡ record { entries = book ++ other ∷ []; front = None }
+    → Appends capacity book entry (Err (record { why = Taken; back = Some back }))
+taken-back {T = T} capacity book entry other why P back fits apart answers lacked is =
+    rw fits (inr (refl, (other, apart, ap Some (is ∙ no-front (append_fault capacity book other) answers refl))))
+  where
+    bare : Found
+    bare = record { entries = book ++ other ∷ []; front = None }
+
+    no-front : (fault : Option Refusal) → Answers {T = T} (Err why) fault P → append_fault capacity book other ≡ fault
+        → bare ≡ found_behind capacity book other
+    no-front None answers is = absurd (lacked answers)
+    no-front (Some fault) answers is = rw is refl

@@ -1,20 +1,25 @@
 -- When an entry may be appended, and what an append answers.
-use Rattle.std.specs.Prelude.{◌≡◌, ◌≢◌, ◌++◌, ◌⊎◌, ℕ, Bool, ◌&&◌, ◌==◌, nat_lt, List, [], ◌∷◌, length, Option, Some}
-use Rattle.std.specs.Prelude.{None, Result, Ok, Err, if◌then◌else◌}
+use Rattle.std.specs.Prelude.{◌≡◌, ◌≢◌, ◌++◌, ◌⊎◌, ℕ, Bool, ◌&&◌, ◌==◌, nat_lt, nat_le, List, [], ◌∷◌, length, Option}
+use Rattle.std.specs.Prelude.{Some, None, Result, Ok, Err, if◌then◌else◌}
 use Rattle.std.specs.List.{list_all}
 use Rattle.fdb_keys.specs.declared.refusal.Refusal.{Refusal}
 use Rattle.fdb_keys.specs.declared.refusal.Refusal.TheVariants.{Chain, Repeated, BookFull, NoMemory, Taken}
 use Rattle.fdb_keys.specs.declared.refusal.Refused.{Refused}
 use Rattle.fdb_txn.specs.declared.entry.Entry.{Entry}
 use Rattle.fdb_txn.specs.book.Transactions.{Transaction}
-use Rattle.fdb_txn.specs.book.Book.{last_version}
+use Rattle.fdb_txn.specs.book.Book.{last_version, last_horizon}
 use Rattle.fdb_book.specs.Ids.{repeated_place}
 
--- the entry goes on from the version: it is the previous one, and the entry's is greater, and above each read version
-abbrev pub goes_on : ℕ → Entry → Bool
-goes_on last entry =
-    (entry.prev == last) && (nat_lt last entry.version
-    && list_all (λ (t : Transaction). nat_lt t.read entry.version) entry.batch)
+-- the entry's horizon isn't below this one, and lies below the entry's version
+abbrev pub has_next_horizon : ℕ → Entry → Bool
+has_next_horizon horizon entry = nat_le horizon entry.horizon && nat_lt entry.horizon entry.version
+
+-- The entry goes on from the version and the horizon: that version is the previous one, and the entry's is greater, and
+-- above each read version; and its horizon goes on from that one.
+abbrev pub goes_on : ℕ → ℕ → Entry → Bool
+goes_on last horizon entry =
+    (entry.prev == last) && (nat_lt last entry.version && (has_next_horizon horizon entry
+    && list_all (λ (t : Transaction). nat_lt t.read entry.version) entry.batch))
 
 -- why no transaction may stand there: an id is repeated, or else there is no cell left
 abbrev pub ids_fault : Option ℕ → Bool → Option Refusal
@@ -24,7 +29,8 @@ ids_fault None is_full = if is_full then Some BookFull else None
 -- why the entry may not be appended to the book of as many cells
 abbrev pub append_fault : ℕ → List Entry → Entry → Option Refusal
 append_fault capacity book entry =
-    if goes_on (last_version book) entry then ids_fault (repeated_place book entry.batch) (length book == capacity)
+    if goes_on (last_version book) (last_horizon book) entry
+    then ids_fault (repeated_place book entry.batch) (length book == capacity)
     else Some Chain
 
 -- the book with another entry that was found, where that one may be appended

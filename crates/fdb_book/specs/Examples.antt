@@ -11,9 +11,14 @@ abbrev pub first_of : ℕ → ℕ → Transaction
 first_of session version =
     record { id = record { session = session; number = 0 }; read = version; reads = []; writes = []; mutations = [] }
 
--- the entry of a version after a previous one
+-- the entry of a version after a previous one, where nothing is old
 abbrev pub entry_of : ℕ → ℕ → List Transaction → Entry
-entry_of version prev batch = record { version = version; prev = prev; moves = []; batch = batch }
+entry_of version prev batch =
+    record { version = version; prev = prev; horizon = 0; moves = []; batch = batch }
+
+-- an entry without transactions, of a version after a previous one, with a horizon
+abbrev pub empty_entry : ℕ → ℕ → ℕ → Entry
+empty_entry version prev horizon = record (entry_of version prev []) { horizon = horizon }
 
 -- the book with one entry of one transaction
 abbrev pub book_of_one : List Entry
@@ -33,6 +38,15 @@ WorkedAppends =
     × (append_fault 2 book_of_one (entry_of 200 100 (first_of 1 199 ∷ [])) ≡ None)
     × (append_fault 2 book_of_one (entry_of 101 100 []) ≡ None)
     × (append_fault 1 [] (entry_of 1 0 []) ≡ None)
+
+-- A horizon may stay or rise, up to the version; it may not fall, nor reach the version.
+abbrev pub WorkedHorizons : Type 0
+WorkedHorizons =
+    (append_fault 2 (empty_entry 100 0 50 ∷ []) (empty_entry 200 100 49) ≡ Some Chain)
+    × (append_fault 2 (empty_entry 100 0 50 ∷ []) (empty_entry 200 100 50) ≡ None)
+    × (append_fault 2 (empty_entry 100 0 50 ∷ []) (empty_entry 200 100 199) ≡ None)
+    × (append_fault 2 (empty_entry 100 0 50 ∷ []) (empty_entry 200 100 200) ≡ Some Chain)
+    × (append_fault 1 [] (empty_entry 1 0 1) ≡ Some Chain)
 
 -- A book has 1 to 1,048,576 cells.
 abbrev pub WorkedCapacities : Type 0

@@ -6,19 +6,21 @@ use Rattle.std.specs.List.{AllByRecursion}
 use Rattle.fdb_keys.specs.declared.refusal.Refusal.{Refusal}
 use Rattle.fdb_keys.specs.declared.refusal.Refusal.TheVariants.{BadConfig}
 use Rattle.fdb_txn.specs.declared.entry.Entry.{Entry}
-use Rattle.fdb_txn.specs.book.History.{AreLinked, ReadsBelow, IsSealed}
+use Rattle.fdb_txn.specs.book.History.{AreLinked, ReadsBelow, IsSealed, HorizonsRise, HasHorizonBelow}
 use Rattle.fdb_txn.specs.book.Once.{NoIdTwice}
 use Rattle.fdb_txn.specs.Limits.{book_limit}
 use Rattle.fdb_book.specs.Ids.{Latest, Covers}
 
 -- A book of sealed transactions, wherever its moves go: versions rise from 0, and each previous one is that of the
 -- entry before, 0 for the first; each transaction read below its entry's version, and has in its write set all that its
--- mutations name; and no id is that of two places.
+-- mutations name; no id is that of two places; and horizons never fall, and each lies below its entry's version.
 pub record IsLinkedBook (book : List Entry) : Type 0 where
   pub linked : AreLinked 0 book
   pub reads : AllByRecursion ReadsBelow book
   pub each_sealed : AllByRecursion IsSealed book
   pub ids : NoIdTwice book
+  pub horizons : HorizonsRise 0 book
+  pub below : AllByRecursion HasHorizonBelow book
 
 -- the longer list begins with the shorter one
 abbrev pub IsPrefix : List Entry → List Entry → Type 0

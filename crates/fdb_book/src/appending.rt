@@ -5,7 +5,7 @@ ghost use Rattle.std.specs.List.{list_all};
 ghost use Rattle.fdb_keys.specs.Answers.{Answers};
 ghost use Rattle.fdb_keys.specs.declared.refusal.Refusal.TheVariants.{NoMemory, Taken};
 ghost use Rattle.fdb_txn.specs.book.History.{IsSealed};
-ghost use Rattle.fdb_book.specs.Appending.{goes_on, append_fault, Appends};
+ghost use Rattle.fdb_book.specs.Appending.{has_next_horizon, goes_on, append_fault, Appends};
 ghost use Rattle.fdb_book.specs.Fronts.{AreOfFirst, shown};
 ghost use Rattle.fdb_book.specs.Ids.{Covers};
 
@@ -27,7 +27,7 @@ use std::sync::Arc;
 /// Appends an entry to the book behind the front, and gives the front one entry longer. Refused, in this order,
 ///
 /// - as `Chain` where the entry's previous version isn't the front's, or its version isn't above that or above each of
-///   its read versions;
+///   its read versions, or its horizon is below the front's, or isn't below its version;
 /// - as `Repeated`, with the first such place, where the id of one of its transactions stands in the front or before it
 ///   in the batch;
 /// - as `BookFull` where the front has an entry in each cell;
@@ -107,7 +107,7 @@ impl<B: BookName> Front<B> {
         ensures same { self.new ≡ self.old }
     {
         // An entry that doesn't go on, or for which there is no cell, leaves the front its numbers.
-        if self.len == self.cells.len() || !goes_on(self.version(), entry) {
+        if self.len == self.cells.len() || !goes_on(self.version(), self.horizon(), entry) {
             return self.prepare(alloc, entry);
         }
         let latest = self.take_latest(alloc);
@@ -126,7 +126,7 @@ impl<B: BookName> Front<B> {
         ensures sealed { IsSealed entry.now }
     {
         let batch = entry.batch.as_slice();
-        if !goes_on(self.version(), entry) {
+        if !goes_on(self.version(), self.horizon(), entry) {
             return Err(Refusal::Chain);
         }
         let taken = try_with_ids(latest, batch);
@@ -288,11 +288,21 @@ impl<B: BookName> Front<B> {
     }
 }
 
-// Whether the entry goes on from the version.
-fn goes_on(last: u64, entry: &Entry) -> bool
-    ensures { result ≡ goes_on last entry.now }
+// Whether the entry goes on from the version and the horizon.
+fn goes_on(last: u64, horizon: u64, entry: &Entry) -> bool
+    ensures { result ≡ goes_on last horizon entry.now }
 {
-    entry.prev == last && last < entry.version && reads_below(entry.batch.as_slice(), entry.version)
+    entry.prev == last
+        && last < entry.version
+        && has_next_horizon(horizon, entry)
+        && reads_below(entry.batch.as_slice(), entry.version)
+}
+
+// Whether the entry's horizon goes on from this one.
+fn has_next_horizon(horizon: u64, entry: &Entry) -> bool
+    ensures { result ≡ has_next_horizon horizon entry.now }
+{
+    horizon <= entry.horizon && entry.horizon < entry.version
 }
 
 // Whether each of the transactions read below the version.

@@ -3,7 +3,7 @@ ghost use Rattle.std.specs.Arc.{arc_value};
 ghost use Rattle.std.specs.Option.{option_copied};
 ghost use Rattle.once_cell.specs.Once.{cell_name};
 ghost use Rattle.fdb_keys.specs.Answers.{Answers};
-ghost use Rattle.fdb_txn.specs.book.Book.{last_version};
+ghost use Rattle.fdb_txn.specs.book.Book.{last_version, last_horizon};
 ghost use Rattle.fdb_book.specs.Fronts.{IsLinkedBook};
 ghost use Rattle.fdb_book.specs.Ids.{Covers};
 
@@ -77,6 +77,16 @@ impl<B: BookName> Front<B> {
             return 0;
         }
         self.entry_at(self.len - 1).version
+    }
+
+    /// The horizon of the last entry, 0 where there is none.
+    pub fn horizon(&self) -> u64
+        ensures { result ≡ last_horizon self.now }
+    {
+        if self.len == 0 {
+            return 0;
+        }
+        self.entry_at(self.len - 1).horizon
     }
 
     /// The entry of this number, from 0, and none where the front shows no more than that many.

@@ -1,5 +1,5 @@
 //! What fronts show, and why appends are refused.
-ghost use Rattle.fdb_book.specs.Examples.{WorkedAppends, WorkedCapacities};
+ghost use Rattle.fdb_book.specs.Examples.{WorkedAppends, WorkedHorizons, WorkedCapacities};
 ghost use Rattle.fdb_book.specs.Laws.{FrontsAreBooks};
 
 use fdb_txn::laws::books_are_entries;
@@ -15,5 +15,6 @@ pub fn fronts_are_books()
 /// Why appends and books are refused, by examples: which refusal comes first, and how many cells a book has.
 pub fn worked_refusals()
     ensures appends { WorkedAppends }
+    ensures horizons { WorkedHorizons }
     ensures capacities { WorkedCapacities }
 {}

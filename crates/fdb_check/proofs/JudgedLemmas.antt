@@ -1,16 +1,27 @@
 -- The entries of a book, judged one after another.
 use Rattle.std.proofs.Common.{◌≡◌, ◌∙◌, sym, ap, subst, ℕ, ◌+◌, add-one, arith, List, [], ◌∷◌, ◌++◌, take, length, Some}
-use Rattle.std.proofs.Common.{slice_get}
+use Rattle.std.proofs.Common.{suc, slice_get}
 use Rattle.std.proofs.lemmas.Option.{same_Some, slice_get_within}
 use Rattle.fdb_keys.specs.Points.{Point}
 use Rattle.fdb_txn.specs.declared.entry.Entry.{Entry}
 use Rattle.fdb_txn.specs.book.Book.{seen_before}
+use Rattle.fdb_txn.specs.book.History.{HorizonsRise}
 use Rattle.fdb_proxy.specs.declared.outcome.Outcome.{Outcome}
 use Rattle.fdb_proxy.specs.Verdicts.{outcomes_on}
 use Rattle.fdb_roles.specs.Lists.{Each}
-use Rattle.fdb_roles.proofs.Exports.{within-item, each-push, take-next}
-use Rattle.fdb_check.specs.Judged.{AreJudged}
+use Rattle.fdb_roles.proofs.Exports.{within-item, each-push, rise-take, take-next}
+use Rattle.fdb_check.specs.Judged.{AreJudged, FollowOn}
 use Rattle.fdb_check.specs.Judging.{Judge, IsJudgeAt}
+use Rattle.fdb_check.proofs.RunningLemmas.{entries-front}
+
+-- the first entries of those that follow on one another do so, too
+pub front-follows : (splits : List Point) (book : List Entry) → FollowOn (suc (length splits)) 0 0 book
+    → (n : ℕ) (entry : Entry) → slice_get book n ≡ Some entry
+    → FollowOn (suc (length splits)) 0 0 (take n book ++ entry ∷ [])
+front-follows splits book follow n entry there = (
+  entries-front splits book follow.0 n entry there,
+  subst (HorizonsRise 0) (take-next book n entry there) (rise-take 0 (suc n) book follow.1),
+)
 
 -- these are the outcomes of the entry with the number
 abbrev pub AreOutcomesOf : List Point → List Entry → ℕ → List Outcome → Type 0

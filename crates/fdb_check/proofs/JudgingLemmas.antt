@@ -1,6 +1,6 @@
 -- A judge that took the entries before another one says of that what the rule says, and has then taken it, too.
-use Rattle.std.proofs.Common.{◌≡◌, ◌∙◌, sym, subst, ℕ, suc, ◌<◌, List, [], ◌∷◌, ◌++◌, length, slice_get, Option, Some}
-use Rattle.std.proofs.Common.{None, OnErr, Result, Ok, Err, arith}
+use Rattle.std.proofs.Common.{◌≡◌, ◌∙◌, sym, subst, ℕ, suc, ◌<◌, ◌≤◌, List, [], ◌∷◌, ◌++◌, length, slice_get, Option}
+use Rattle.std.proofs.Common.{Some, None, OnErr, Result, Ok, Err, arith}
 use Rattle.std.proofs.lemmas.Option.{same_Some, slice_get_within}
 use Rattle.fdb_keys.specs.Answers.{Answers}
 use Rattle.fdb_keys.specs.Points.{Point}
@@ -9,7 +9,6 @@ use Rattle.fdb_keys.specs.declared.refusal.Refusal.TheVariants.{NoMemory}
 use Rattle.fdb_txn.specs.declared.entry.Entry.{Entry}
 use Rattle.fdb_txn.specs.declared.entry.Move.{Move}
 use Rattle.fdb_txn.specs.book.Book.{Stamped, Seen, add_moves, head_of, seen_of}
-use Rattle.fdb_txn.specs.book.History.{AreEntries}
 use Rattle.fdb_txn.proofs.Exports.{seen_of-push}
 use Rattle.fdb_owners.specs.Ownership.{Ownership, resolvers_of, learn_fault, HasLearnt}
 use Rattle.fdb_owners.specs.OwnersLaws.{AgreesWith}
@@ -24,19 +23,20 @@ use Rattle.fdb_proxy.specs.VerdictLaws.{AreByTheRule}
 use Rattle.fdb_proxy.proofs.Exports.{entries_are_decided_by_the_rule, may-learn}
 use Rattle.fdb_roles.specs.AtBook.{IsResolverAt}
 use Rattle.fdb_roles.specs.Lists.{Each}
-use Rattle.fdb_roles.proofs.Exports.{within-item, may-take, takes, position, history, last-push}
+use Rattle.fdb_roles.specs.ProxyStages.{position_in}
+use Rattle.fdb_roles.proofs.Exports.{within-item, may-take, takes, history, last-push, last-risen, last_horizon-push}
+use Rattle.fdb_check.specs.Judged.{FollowOn}
 use Rattle.fdb_check.specs.Judging.{Judge, HaveMoves, IsJudgeAt, MayTake, HaveSaid}
 
 -- The next entry of a book after these.
 module _ (splits : List Point) (before : List Entry) (entry : Entry)
-    (entries : AreEntries (suc (length splits)) 0 (before ++ entry ∷ [])) where
+    (follow : FollowOn (suc (length splits)) 0 0 (before ++ entry ∷ [])) where
   -- all of them take their parts
   module _ (index : ℕ) (old : List Resolver) (parts : List Part) (count : length old ≡ suc (length splits))
       (at : Each (IsResolverAt splits before) old)
-      (are : AreParts splits (moves_through (seen_of before) entry) (position splits before entry entries index)
-      entry.batch parts) where
+      (are : AreParts splits (moves_through (seen_of before) entry) (position_in index entry) entry.batch parts) where
     pub may-take-all : MayTake old parts
-    may-take-all i resolver part here its = may-take splits before entry entries index i resolver part
+    may-take-all i resolver part here its = may-take splits before entry follow.0 index i resolver part
         (at i resolver here) (are.each i part its)
 
     module _ (new : List Resolver) (said : List (Option Said)) (have : HaveSaid (length parts) old parts new said) where
@@ -50,8 +50,8 @@ module _ (splits : List Point) (before : List Entry) (entry : Entry)
           let resolver = within-item old i (omega (arith, count, within)) in
           let part = within-item parts i (omega (arith, as_many, within)) in
           let given = have.each i resolver.0 part.0 (omega (arith, as_many, within)) resolver.1 part.1 in
-          let took = takes splits before entry entries index i resolver.0 part.0 (at i resolver.0 resolver.1)
-          (are.each i part.0 part.1) given.0 given.1 given.4 in
+          let took = takes splits before entry follow.0 index i resolver.0 part.0 (at i resolver.0 resolver.1)
+          (are.each i part.0 part.1) (last-risen before entry follow.1) given.0 given.1 given.4 in
           (given.0, given.1, given.2, given.3, took.0, took.1)
 
       within-said : (i : ℕ) (one : Option Said) → slice_get said i ≡ Some one → i < suc (length splits)
@@ -77,7 +77,7 @@ module _ (splits : List Point) (before : List Entry) (entry : Entry)
 
       pub decided : outcomes_by entry.version said (length entry.batch) ≡ outcomes_on splits (seen_of before) entry
       decided = entries_are_decided_by_the_rule splits (seen_of before) entry said
-          (history splits before entry entries) by-the-rule
+          (history splits before entry follow.0) by-the-rule
 
       pub all-at-next : Each (IsResolverAt splits (before ++ entry ∷ [])) new
       all-at-next i resolver there =
@@ -113,7 +113,7 @@ module _ (splits : List Point) (before : List Entry) (entry : Entry) (old : Judg
     (at : IsJudgeAt splits before old) (same : owners.splits ≡ old.owners.splits)
     (learnt : (older : List Stamped) → AgreesWith old.owners older
     → AgreesWith owners (add_moves entry.version entry.moves older))
-    (entries : AreEntries (suc (length splits)) 0 (before ++ entry ∷ [])) where
+    (forgot : owners.floor ≤ entry.horizon) (follow : FollowOn (suc (length splits)) 0 0 (before ++ entry ∷ [])) where
   are : splits ≡ owners.splits
   are = sym (same ∙ at.splits_are)
 
@@ -127,7 +127,7 @@ module _ (splits : List Point) (before : List Entry) (entry : Entry) (old : Judg
   Judges result new =
       (earlier : List Entry) → AgreesWith owners (moves_through (seen_of earlier) entry)
       → Each (IsResolverAt owners.splits earlier) old.resolvers
-      → AreEntries (resolvers_of owners) 0 (earlier ++ entry ∷ [])
+      → FollowOn (resolvers_of owners) 0 0 (earlier ++ entry ∷ [])
       → Answers result None (λ outcomes. (outcomes ≡ outcomes_on owners.splits (seen_of earlier) entry)
       × Each (IsResolverAt owners.splits (earlier ++ entry ∷ [])) new)
 
@@ -136,7 +136,7 @@ module _ (splits : List Point) (before : List Entry) (entry : Entry) (old : Judg
       subst (λ (by : List Point). Rules by result new) (sym are)
       (judges before (learnt (seen_of before).moves at.owners)
       (subst (λ (by : List Point). Each (IsResolverAt by before) old.resolvers) are at.resolvers)
-      (subst (λ (by : List Point). AreEntries (suc (length by)) 0 (before ++ entry ∷ [])) are entries))
+      (subst (λ (by : List Point). FollowOn (suc (length by)) 0 0 (before ++ entry ∷ [])) are follow))
 
   -- has taken it
   pub taken-judge : (outcomes : List Outcome) (new : List Resolver) → Judges (Ok outcomes) new
@@ -151,6 +151,7 @@ module _ (splits : List Point) (before : List Entry) (entry : Entry) (old : Judg
           owners = subst (λ (seen : Seen). AgreesWith owners seen.moves) (sym (seen_of-push before entry))
               (learnt (seen_of before).moves at.owners);
           resolvers = ruled.1;
+          floor = let last = last_horizon-push before entry in omega (arith, forgot, last);
         },
       )
 

@@ -6,11 +6,15 @@ use Rattle.fdb_keys.specs.declared.refusal.Refusal.{Refusal}
 use Rattle.fdb_keys.specs.declared.refusal.Refusal.TheVariants.{Chain, NoMemory}
 use Rattle.fdb_txn.specs.declared.entry.Entry.{Entry}
 use Rattle.fdb_txn.specs.book.Book.{Seen, seen_before}
-use Rattle.fdb_txn.specs.book.History.{AreEntries}
+use Rattle.fdb_txn.specs.book.History.{AreEntries, HorizonsRise}
 use Rattle.fdb_txn.specs.rules.Splits.{splits_fault}
 use Rattle.fdb_txn.specs.Limits.{resolver_limit}
 use Rattle.fdb_proxy.specs.declared.outcome.Outcome.{Outcome}
 use Rattle.fdb_proxy.specs.Verdicts.{outcomes_on}
+
+-- entries after a version and a horizon, as they are in a book of sealed transactions, but for the ids
+abbrev pub FollowOn : (resolvers last horizon : ℕ) → List Entry → Type 0
+FollowOn resolvers last horizon entries = AreEntries resolvers last entries × HorizonsRise horizon entries
 
 -- what becomes of the places of an entry, if there is one
 abbrev pub outcomes_of : List Point → Seen → Option Entry → List Outcome
@@ -32,11 +36,11 @@ pub record JudgedBook : Type 0 where
 abbrev pub IsNoBook : List Point → List Entry → Refusal → Type 0
 IsNoBook splits book why =
     (splits_fault resolver_limit splits ≡ Some why)
-    ⊎ ((splits_fault resolver_limit splits ≡ None) × (why ≡ Chain) × ¬ AreEntries (suc (length splits)) 0 book)
+    ⊎ ((splits_fault resolver_limit splits ≡ None) × (why ≡ Chain) × ¬ FollowOn (suc (length splits)) 0 0 book)
 
 -- keys that are splits, and entries that follow on one another
 abbrev pub IsToJudge : List Point → List Entry → Type 0
-IsToJudge splits book = (splits_fault resolver_limit splits ≡ None) × AreEntries (suc (length splits)) 0 book
+IsToJudge splits book = (splits_fault resolver_limit splits ≡ None) × FollowOn (suc (length splits)) 0 0 book
 
 -- What judging a book answers, exact both ways: there is no book to judge, with that fault. Where there is one, memory
 -- may run out, and else it is the judged book of these splits and entries.

@@ -1,9 +1,8 @@
 -- What the check's judge keeps of the entries that it took, and what it makes of the next one.
-use Rattle.std.specs.Prelude.{◌≡◌, ◌<◌, ◌≤◌, ◌-◌, ℕ, List, length, slice_get, Option, Some, None}
+use Rattle.std.specs.Prelude.{◌≡◌, ◌<◌, ◌≤◌, ℕ, List, length, slice_get, Option, Some, None}
 use Rattle.fdb_keys.specs.Points.{Point}
 use Rattle.fdb_txn.specs.declared.entry.Entry.{Entry}
-use Rattle.fdb_txn.specs.book.Book.{Stamped, seen_of, last_version}
-use Rattle.fdb_txn.specs.rules.Owners.{window}
+use Rattle.fdb_txn.specs.book.Book.{Stamped, seen_of, last_version, last_horizon}
 use Rattle.fdb_owners.specs.Ownership.{Ownership, resolvers_of}
 use Rattle.fdb_owners.specs.OwnersLaws.{AgreesWith}
 use Rattle.fdb_resolver.specs.declared.part.Part.{Part}
@@ -27,15 +26,15 @@ HaveMoves owners = (moves : List Stamped) × AgreesWith owners moves
 pub record IsJudge (judge : Judge) : Type 0 where
   pub known : HaveMoves judge.owners
   pub learnt : judge.owners.last ≤ judge.last
-  pub floor : judge.owners.floor ≤ judge.last - window
   pub count : length judge.resolvers ≡ resolvers_of judge.owners
 
--- the judge took these entries, with the keys split so at first
+-- the judge took these entries, with the keys split so at first, and forgot no owner from the last one's horizon on
 pub record IsJudgeAt (splits : List Point) (before : List Entry) (judge : Judge) : Type 0 where
   pub splits_are : judge.owners.splits ≡ splits
   pub last : judge.last ≡ last_version before
   pub owners : AgreesWith judge.owners (seen_of before).moves
   pub resolvers : Each (IsResolverAt splits before) judge.resolvers
+  pub floor : judge.owners.floor ≤ last_horizon before
 
 -- each resolver may take its part
 abbrev pub MayTake : List Resolver → List Part → Type 0

@@ -1,8 +1,8 @@
 // Which entries follow on one another, as those of a book do.
 ghost use Rattle.std.specs.Prelude.{◌<◌, ◌↔◌, All, IsTrue, MatchResult};
 ghost use Rattle.std.specs.List.{AllByRecursion};
-ghost use Rattle.fdb_txn.specs.book.History.{AreEntries, IsSealed};
-ghost use Rattle.fdb_check.specs.Judged.{IsToJudge, IsNoBook};
+ghost use Rattle.fdb_txn.specs.book.History.{IsSealed};
+ghost use Rattle.fdb_check.specs.Judged.{FollowOn, IsToJudge, IsNoBook};
 ghost use Rattle.fdb_roles.specs.Judging.{MayFollow};
 
 use fdb_keys::{Key, Refusal};
@@ -20,12 +20,14 @@ fn are_reads_below(batch: &[Sealed], version: u64) -> bool
     batch.iter().all(|txn| txn.read_version() < version)
 }
 
-// Whether the entry may stand after one of the version, where there are so many resolvers.
-fn may_follow(last: u64, resolvers: u32, entry: &Entry) -> bool
-    ensures { IsTrue result ↔ MayFollow last resolvers entry.now }
+// Whether the entry may stand after one of the version and horizon, where there are so many resolvers.
+fn may_follow(last: u64, horizon: u64, resolvers: u32, entry: &Entry) -> bool
+    ensures { IsTrue result ↔ MayFollow last horizon resolvers entry.now }
 {
     last < entry.version
         && entry.prev == last
+        && horizon <= entry.horizon
+        && entry.horizon < entry.version
         && do_targets_exist(entry.moves.as_slice(), resolvers)
         && are_reads_below(entry.batch.as_slice(), entry.version)
 }
@@ -39,17 +41,19 @@ fn know_sealed(book: &[Entry])
     }
 }
 
-// Whether the entries follow on one another from version 0 on, where there are so many resolvers.
+// Whether the entries follow on one another from version and horizon 0 on, where there are so many resolvers.
 fn are_entries(resolvers: u32, book: &[Entry]) -> bool
-    ensures { IsTrue result ↔ AreEntries resolvers 0 book.now }
+    ensures { IsTrue result ↔ FollowOn resolvers 0 0 book.now }
 {
     know_sealed(book);
     let mut last = 0;
+    let mut horizon = 0;
     for entry in book {
-        if !may_follow(last, resolvers, entry) {
+        if !may_follow(last, horizon, resolvers, entry) {
             return false;
         }
         last = entry.version;
+        horizon = entry.horizon;
     }
     true
 }

@@ -1,18 +1,17 @@
 // The rule over all resolvers, entry by entry.
-ghost use Rattle.std.specs.Prelude.{◌≡◌, ◌<◌, ◌≤◌, ◌-◌, ◌++◌, length, List, [], ◌∷◌, None, IfOk};
+ghost use Rattle.std.specs.Prelude.{◌≡◌, ◌<◌, ◌≤◌, ◌++◌, length, List, [], ◌∷◌, None, IfOk};
 ghost use Rattle.std.specs.Prelude.{IfErr, All};
 ghost use Rattle.fdb_keys.specs.Answers.{Answers};
 ghost use Rattle.fdb_keys.specs.declared.refusal.Refusal.TheVariants.{NoMemory};
 ghost use Rattle.fdb_txn.specs.declared.entry.Entry.{Entry};
 ghost use Rattle.fdb_txn.specs.book.Book.{Stamped, seen_of, add_moves};
-ghost use Rattle.fdb_txn.specs.book.History.{AreEntries};
-ghost use Rattle.fdb_txn.specs.rules.Owners.{window};
 ghost use Rattle.fdb_owners.specs.Ownership.{resolvers_of};
 ghost use Rattle.fdb_owners.specs.OwnersLaws.{AgreesWith};
 ghost use Rattle.fdb_resolver.specs.Parts.{IsPart};
 ghost use Rattle.fdb_resolver.specs.Resolvers.{IsNew};
 ghost use Rattle.fdb_proxy.specs.Verdicts.{moves_through, outcomes_on};
 ghost use Rattle.fdb_roles.specs.Lists.{Each};
+ghost use Rattle.fdb_check.specs.Judged.{FollowOn};
 ghost use Rattle.fdb_check.specs.Judging.{HaveMoves, MayTake, HaveSaid};
 ghost use Rattle.fdb_roles.specs.AtBook.{IsResolverAt};
 
@@ -20,7 +19,7 @@ use fdb_keys::{Items, Key, Refusal};
 use fdb_owners::Owners;
 use fdb_proxy::{Outcome, Position, outcomes_of, parts_of};
 use fdb_resolver::{Part, ResolverCore, Verdict};
-use fdb_txn::{Entry, Move, RESOLVER_LIMIT, Splits, WINDOW};
+use fdb_txn::{Entry, Move, RESOLVER_LIMIT, Splits};
 use std::alloc::{AllocError, Global};
 use std::marker::Model;
 
@@ -56,10 +55,10 @@ impl Judge {
     ghost use Rattle.fdb_txn.specs.declared.entry.Entry.{Entry};
     ghost use Rattle.fdb_txn.specs.Limits.{resolver_limit};
     ghost use Rattle.fdb_txn.specs.book.Book.{seen_of};
-    ghost use Rattle.fdb_txn.specs.book.History.{AreEntries};
     ghost use Rattle.fdb_txn.specs.rules.Splits.{splits_fault};
     ghost use Rattle.fdb_proxy.specs.Verdicts.{outcomes_on};
     ghost use Rattle.fdb_owners.specs.Ownership.{resolvers_of};
+    ghost use Rattle.fdb_check.specs.Judged.{FollowOn};
     ghost use Rattle.fdb_check.specs.Judging.{IsJudgeAt};
     ghost use Rattle.fdb_roles.specs.Judging.{MayFollow};
 
@@ -83,10 +82,10 @@ impl Judge {
     /// Takes the next entry, and says what becomes of each of its places. Refused only as `NoMemory`, where the entry
     /// is the next one of a book.
     pub(crate) fn take(&mut self, entry: &Entry) -> Result<Items<Outcome>, Refusal>
-        requires { MayFollow self.old.last (resolvers_of self.old.owners) entry.now }
+        requires { MayFollow self.old.last self.old.owners.floor (resolvers_of self.old.owners) entry.now }
         ensures count { IfOk result (λ outcomes. length outcomes ≡ length entry.now.batch) }
         ensures outcomes { (splits : List Point) (before : List Entry) → IsJudgeAt splits before self.old
-            → AreEntries (suc (length splits)) 0 (before ++ entry.now ∷ [])
+            → FollowOn (suc (length splits)) 0 0 (before ++ entry.now ∷ [])
             → Answers result None (λ outcomes. (outcomes ≡ outcomes_on splits (seen_of before) entry.now)
             × IsJudgeAt splits (before ++ entry.now ∷ []) self.new) }
     {
@@ -126,20 +125,20 @@ fn learn_some(owners: &mut Owners, version: u64, moves: &[Move]) -> Result<(), R
     owners.learn(version, moves)
 }
 
-// Learns the entry's moves, and forgets who owned what below its window.
+// Learns the entry's moves, and forgets who owned what below its horizon.
 fn learn(owners: &mut Owners, entry: &Entry) -> Result<(), Refusal>
     requires later { owners.old.last < entry.now.version }
     requires targets { All (λ move. move.to < resolvers_of owners.old) entry.now.moves }
-    requires kept { owners.old.floor ≤ entry.now.version - window }
+    requires kept { owners.old.floor ≤ entry.now.horizon }
     ensures answers { Answers result None (λ _. (older : List Stamped) → AgreesWith owners.old older
         → AgreesWith owners.new (add_moves entry.now.version entry.now.moves older)) }
     ensures known { HaveMoves owners.old → HaveMoves owners.new }
     ensures splits { owners.new.splits ≡ owners.old.splits }
     ensures last { owners.new.last ≤ entry.now.version }
-    ensures floor { owners.new.floor ≤ entry.now.version - window }
+    ensures floor { owners.new.floor ≤ entry.now.horizon }
 {
     learn_some(owners, entry.version, entry.moves.as_slice())?;
-    owners.expire(entry.version.saturating_sub(WINDOW));
+    owners.expire(entry.horizon);
     Ok(())
 }
 
@@ -176,12 +175,13 @@ fn judge_entry(
     requires later { entry.now.prev < entry.now.version }
     requires reads { All (λ t. t.read < entry.now.version) entry.now.batch }
     requires learnt { owners.now.last ≤ entry.now.version }
-    requires kept { owners.now.floor ≤ entry.now.version - window }
+    requires kept { owners.now.floor ≤ entry.now.horizon }
+    requires below { entry.now.horizon < entry.now.version }
     ensures count { IfOk result (λ outcomes. length outcomes ≡ length entry.now.batch) }
     ensures resolvers { length resolvers.new.items ≡ length resolvers.old.items }
     ensures outcomes { (before : List Entry) → AgreesWith owners.now (moves_through (seen_of before) entry.now)
         → Each (IsResolverAt owners.now.splits before) resolvers.old.items
-        → AreEntries (resolvers_of owners.now) 0 (before ++ entry.now ∷ [])
+        → FollowOn (resolvers_of owners.now) 0 0 (before ++ entry.now ∷ [])
         → Answers result None (λ outcomes. (outcomes ≡ outcomes_on owners.now.splits (seen_of before) entry.now)
         × Each (IsResolverAt owners.now.splits (before ++ entry.now ∷ [])) resolvers.new.items) }
 {
@@ -190,6 +190,7 @@ fn judge_entry(
         index: 0,
         version: entry.version,
         prev: entry.prev,
+        horizon: entry.horizon,
     };
     let batch = entry.batch.as_slice();
     let parts = parts_of(alloc, owners, position, batch)?;

@@ -2,10 +2,9 @@
 ghost use Rattle.std.specs.Prelude.{◌≡◌, suc, [], length, None};
 ghost use Rattle.fdb_keys.specs.Answers.{Answers};
 ghost use Rattle.fdb_txn.specs.Limits.{resolver_limit};
-ghost use Rattle.fdb_txn.specs.book.History.{AreEntries};
 ghost use Rattle.fdb_txn.specs.rules.Splits.{splits_fault};
 ghost use Rattle.fdb_owners.specs.Ownership.{resolvers_of};
-ghost use Rattle.fdb_check.specs.Judged.{AreJudged};
+ghost use Rattle.fdb_check.specs.Judged.{AreJudged, FollowOn};
 ghost use Rattle.fdb_check.specs.Judging.{IsJudgeAt};
 
 use crate::judge::Judge;
@@ -20,7 +19,7 @@ fn judge_entries(
     judge: &mut Judge,
     book: &[Entry],
 ) -> Result<Items<Items<Outcome>>, Refusal>
-    requires entries { AreEntries (resolvers_of judge.old.owners) 0 book.now }
+    requires entries { FollowOn (resolvers_of judge.old.owners) 0 0 book.now }
     requires first { IsJudgeAt judge.old.owners.splits [] judge.old }
     ensures { Answers result None (AreJudged judge.old.owners.splits book.now) }
 {
@@ -39,7 +38,7 @@ pub(crate) fn judge_book(
     book: &[Entry],
 ) -> Result<Items<Items<Outcome>>, Refusal>
     requires splits { splits_fault resolver_limit splits.now ≡ None }
-    requires entries { AreEntries (suc (length splits.now)) 0 book.now }
+    requires entries { FollowOn (suc (length splits.now)) 0 0 book.now }
     ensures { Answers result None (AreJudged splits.now book.now) }
 {
     let mut judge = Judge::new(alloc, splits)?;

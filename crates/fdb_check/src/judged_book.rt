@@ -24,27 +24,27 @@ pub struct JudgedBook<'a> {
 
 impl<'a> Model for JudgedBook<'a> {
     ghost use Rattle.std.specs.Prelude.{suc, length};
-    ghost use Rattle.fdb_txn.specs.book.History.{AreEntries};
-    ghost use Rattle.fdb_check.specs.Judged.{AreJudged, JudgedBook};
+    ghost use Rattle.fdb_check.specs.Judged.{AreJudged, FollowOn, JudgedBook};
 
     ghost Value = { JudgedBook };
 
     ghost view = { λ judged. record { splits = judged.splits.now; book = judged.book.now } };
 
-    ghost invariant = { λ judged. AreEntries (suc (length judged.splits.now)) 0 judged.book.now
+    ghost invariant = { λ judged. FollowOn (suc (length judged.splits.now)) 0 0 judged.book.now
         × AreJudged judged.splits.now judged.book.now judged.outcomes };
 }
 
 impl<'a> JudgedBook<'a> {
     ghost use Rattle.std.specs.Prelude.{◌≡◌, suc, length};
-    ghost use Rattle.fdb_txn.specs.book.History.{AreEntries};
+    ghost use Rattle.fdb_txn.specs.book.History.{AreEntries, HorizonsRise};
     ghost use Rattle.fdb_check.specs.Judged.{AreJudged, JudgesBook};
 
     /// Judges the book: the splits part the keys among resolvers, and what becomes of each place of the entries is
     /// what the rule over all resolvers says. Refused as `BadConfig` exactly where the keys are no splits into at most
     /// 64 pieces; else as `Chain` exactly where the entries are none of a book: their versions rise from 0, each
-    /// previous version is that of the entry before, each transaction reads below its entry's version, and moves go to
-    /// resolvers that exist. Else it is refused only as `NoMemory`. A refused call leaves nothing behind.
+    /// previous version is that of the entry before, horizons never fall, and each lies below its entry's version; each
+    /// transaction reads below its entry's version, and moves go to resolvers that exist. Else it is refused only as
+    /// `NoMemory`. A refused call leaves nothing behind.
     ///
     /// It takes O(n + e r) time for e entries with n moves, places and ranges of their sets, and r resolvers, beside
     /// what the owners take to learn the moves and to part the ranges, and the resolvers to take their parts. It keeps
@@ -65,6 +65,7 @@ impl<'a> JudgedBook<'a> {
     pub fn book(&self) -> &[Entry]
         ensures lent { result.now ≡ self.now.book }
         ensures entries { AreEntries (suc (length self.now.splits)) 0 self.now.book }
+        ensures horizons { HorizonsRise 0 self.now.book }
     {
         self.book
     }

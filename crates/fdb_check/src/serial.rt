@@ -25,9 +25,9 @@ use std::alloc::Global;
 /// after the entries of version at most its own. Else it fails only as `NoMemory`.
 ///
 /// The configuration is a legal one. The entries are a book: versions rise from 0, and each previous version is that of
-/// the entry before; each transaction reads below its entry's version; moves go to resolvers that exist; no id is that
-/// of two places. It takes the logarithm of how many transcripts and entries there are for each transcript, and what it
-/// takes to judge and to run the book.
+/// the entry before; horizons never fall, and each lies below its entry's version; each transaction reads below its
+/// entry's version; moves go to resolvers that exist; no id is that of two places. It takes the logarithm of how many
+/// transcripts and entries there are for each transcript, and what it takes to judge and to run the book.
 pub fn serial_check(
     alloc: Global,
     config: &Config,

@@ -47,7 +47,7 @@ pub(crate) struct Cluster {
     // What each session is at.
     pub(crate) sessions: Sessions,
     pub(crate) acknowledged: Vec<Placed>,
-    // It gives the versions, and keeps the greatest one that was reported.
+    // It gives the versions and horizons, and keeps the greatest version that was reported.
     pub(crate) sequencer: SequencerCore,
 }
 

@@ -63,6 +63,7 @@ impl Cluster {
             Step::Forget { shard, version } => self.forget(*shard, *version),
             Step::Pop { shard } => self.pop(*shard),
             Step::Move { range, to } => self.move_to(range, *to),
+            Step::Window { window } => self.set_window(*window),
         }
     }
 }

@@ -1,10 +1,8 @@
 -- Breakpoints in their order, each with the value that goes from it up to the next one, as a version.
 use Rattle.std.specs.Prelude.{◌≡◌, ◌<◌, ⊤, ℕ, max, nat_le, true, List, [], ◌∷◌, ◌++◌, if◌then◌else◌}
-use Rattle.std.specs.BTreeMap.{is_at}
 use Rattle.std.specs.BTreeMap.Range.{entries_between}
 use Rattle.std.specs.Cmp.Lexicographic.{slice_cmp}
-use Rattle.std.specs.List.{filter, fold}
-use Rattle.std.specs.Map.{remove_entry}
+use Rattle.std.specs.List.{filter}
 use Rattle.std.specs.Ordering.{nat_cmp}
 use Rattle.std.specs.declared.ops.Bound.TheVariants.{Excluded}
 use Rattle.fdb_keys.specs.Ordered.{AreOrdered}

@@ -19,6 +19,7 @@ pub use Rattle.fdb_machine.proofs.machine.SessionLemmas.{open-has, open-new, ope
 pub use Rattle.fdb_machine.proofs.machine.SessionLemmas.{open-weaken}
 pub use Rattle.fdb_machine.proofs.machine.SessionMaps.{acted-there, all_acted-put, all_known-put, put-there}
 pub use Rattle.fdb_machine.proofs.machine.SessionMaps.{put_back-same, state-again}
+pub use Rattle.fdb_machine.proofs.machine.Steps.{window-legal}
 pub use Rattle.fdb_machine.proofs.machine.Transitions.{pushes-transition, reads-refused, reads-transition}
 pub use Rattle.fdb_machine.proofs.machine.Transitions.{resolves-transition, submits-to_commit}
 pub use Rattle.fdb_machine.proofs.readings.SessionLists.{item-after-set}

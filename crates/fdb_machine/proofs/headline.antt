@@ -12,3 +12,4 @@ pub mod RunsLemmas
 pub mod ScriptExamplesLemmas
 pub mod ScriptLemmas
 pub mod TraceLaws
+pub mod WindowExamplesLemmas

@@ -17,3 +17,4 @@ pub mod ScriptExamples
 pub mod Serving
 pub mod Sessions
 pub mod Traces
+pub mod WindowExamples

@@ -19,7 +19,7 @@ ghost use Rattle.fdb_machine.specs.headline.Headline.{AcknowledgedAreSerialized}
 ghost use Rattle.fdb_machine.specs.headline.KeepingExamples.{FailuresAreShown, OtherLogsAreInNoWorld};
 ghost use Rattle.fdb_machine.specs.headline.KeepingExamples.{OtherMessagesAreInNoWorld, OtherResolversAreInNoWorld};
 ghost use Rattle.fdb_machine.specs.headline.KeepingExamples.{OtherSequencersAreInNoWorld, OtherShardsAreInNoWorld};
-ghost use Rattle.fdb_machine.specs.headline.MoveExamples.{TheSpanBeginsAtTheWindow, TheLaterMoveCounts};
+ghost use Rattle.fdb_machine.specs.headline.MoveExamples.{TheSpanBeginsAtTheHorizon, TheLaterMoveCounts};
 ghost use Rattle.fdb_machine.specs.headline.MoveExamples.{MovesTakeEffectWithTheNextEntry};
 ghost use Rattle.fdb_machine.specs.headline.HeadlineExamples.{EachLogCounts, EachShardServes, LaterWritersAreAfter};
 ghost use Rattle.fdb_machine.specs.headline.HeadlineExamples.{NobodyIsToldTwice, OnlyTheAskedForIsSerialized};
@@ -32,6 +32,7 @@ ghost use Rattle.fdb_machine.specs.headline.RealTime.{RealTime};
 ghost use Rattle.fdb_machine.specs.headline.ScriptExamples.{WorkedScriptsAreTraces};
 ghost use Rattle.fdb_machine.specs.headline.Sessions.{SessionsAreWhereTheirStatesSay, AsksAreRefused};
 ghost use Rattle.fdb_machine.specs.headline.Traces.{TracesDetermineTheMachine, WorldsShowWhatIsTold};
+ghost use Rattle.fdb_machine.specs.headline.WindowExamples.{WindowsHoldFromTheNextEntry, WindowsAreRead};
 ghost use Rattle.fdb_roles.specs.RoleExamples.{AnEmptyShardDoesNotServe};
 
 /// A refused step changes nothing.
@@ -85,7 +86,8 @@ pub fn range_reads_are_refused_exactly_where_a_shard_of_the_range_does_not_serve
 /// A trace determines the machine: a world that stands for a list of steps with their answers shows the machine
 /// that the list takes the first one to, an accepted step after another. And what the machine has of the entries, of
 /// the transaction that each session has open and the number of its next one, of transactions that wait, are in flight
-/// or are acknowledged, and of versions that were reported, is what is read off the steps and their answers.
+/// or are acknowledged, of versions that were reported, and of the window, is what is read off the steps and their
+/// answers.
 pub fn traces_determine_the_machine()
     ensures determined { TracesDetermineTheMachine }
     ensures told { WorldsShowWhatIsTold }
@@ -120,8 +122,8 @@ pub fn steps_of_roles_are_accepted_where_they_are_due()
 /// that forgets would have to keep, what is read off steps of every kind and of a trace with a conflict, which answers
 /// a trace has, what a shard of two pulls, forgets and pops and at which versions it answers from the run, who is asked
 /// where keys go over from one resolver to another, which steps are refused where a role has failed, which roles may
-/// fail in a step in which memory runs out, that a role which answers hasn't failed, and what a commit proxy tells of
-/// its batch.
+/// fail in a step in which memory runs out, that a role which answers hasn't failed, what a commit proxy tells of
+/// its batch, and from which entry on a window that is set holds.
 pub fn worked_examples()
     ensures spots { OnlyTheFirstIsSerialized }
     ensures read_only { ReadOnlyAtItsVersion }
@@ -138,7 +140,7 @@ pub fn worked_examples()
     ensures proxies { ReadAtTwoProxies }
     ensures progress { ReadOffTheRoles }
     ensures moves { MovesTakeEffectWithTheNextEntry }
-    ensures span { TheSpanBeginsAtTheWindow }
+    ensures span { TheSpanBeginsAtTheHorizon }
     ensures overlap { TheLaterMoveCounts }
     ensures scripts { WorkedScriptsAreTraces }
     ensures versions { OtherVersionsAreNoAnswers }
@@ -153,12 +155,15 @@ pub fn worked_examples()
     ensures own { TheStepsOwnRoleFails }
     ensures answered { WhoAnswersHasNotFailed }
     ensures in_flight { FailedProxiesTellNothing }
+    ensures windows { WindowsHoldFromTheNextEntry }
+    ensures horizons { WindowsAreRead }
 {}
 
 /// Over every trace the entries are a book: their versions rise, and each previous version is that of the entry before;
-/// each transaction reads below its entry's version; moves go to resolvers that exist; and no two places, of one entry
-/// or of two, are of transactions with the same id. Each transaction's write set has all that its mutations name. The
-/// clients of an entry are told at most once.
+/// their horizons never fall, and each lies below its entry's version; each transaction reads below its entry's
+/// version; moves go to resolvers that exist; and no two places, of one entry or of two, are of transactions with the
+/// same id. Each transaction's write set has all that its mutations name. The clients of an entry are told at most
+/// once.
 pub fn entries_of_traces_are_books()
     ensures books { TracesTellBooks }
     ensures answered { EntriesAreAnsweredOnce }
@@ -196,11 +201,11 @@ pub fn worked_headline()
 
 /// What the roles of a small world keep, after one entry which all took, and what they keep in no such world, each
 /// example for one thing: another flag of a role that has failed than the world shows; a sequencer with another ticket,
-/// version or pending move, or with a move that its proxy has yet to learn; a resolver of another number or version, or
-/// with other writes than those of its entries; an entry without its part, without its message though it is decided, or
-/// with one though it isn't; a log of another number or version, or without its message; a shard of another number,
-/// range, floor or version, or with what nobody wrote; and one role less than there are. A role that has failed may
-/// keep anything.
+/// version, pending move, window or horizon, or with a move that its proxy has yet to learn; a resolver of another
+/// number or version, or with other writes than those of its entries; an entry without its part, without its message
+/// though it is decided, or with one though it isn't; a log of another number or version, or without its message; a
+/// shard of another number, range, floor or version, or with what nobody wrote; and one role less than there are. A
+/// role that has failed may keep anything.
 pub fn worked_worlds()
     ensures failed { FailuresAreShown }
     ensures sequencers { OtherSequencersAreInNoWorld }

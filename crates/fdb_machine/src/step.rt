@@ -108,6 +108,11 @@ pub enum AnyStep<K, R, M> {
         range: R,
         to: u32,
     },
+    /// From the next entry on an entry's horizon, below which a read is too old, lies this far below its version, or
+    /// stays where it would fall.
+    Window {
+        window: u64,
+    },
 }
 
 /// One step of a client or of a role.

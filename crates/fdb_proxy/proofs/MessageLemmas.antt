@@ -50,6 +50,6 @@ body-committed splits before entry = body-from splits (head_of before entry) ent
 pub messages_hold_the_committed : MessagesHoldTheCommitted
 messages_hold_the_committed splits shard_splits logs i before entry acknowledged =
     ap (λ (body : Body).
-    map (message_with logs (record { index = i; version = entry.version; prev = entry.prev })
+    map (message_with logs (record { index = i; version = entry.version; prev = entry.prev; horizon = entry.horizon })
     (map (tagged shard_splits) body)) (range_with_len 0 logs))
     (body-committed splits before entry)

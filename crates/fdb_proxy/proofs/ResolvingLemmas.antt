@@ -56,11 +56,11 @@ on-lengths (item ∷ items) (one ∷ said) is = ap suc (on-lengths items said
     (and_parts (item.place == one.0) (are_on items said) is).1)
 
 -- a resolver's verdicts on the items of its part are on just their places
-pub verdicts-are-on : (version : ℕ) (f : Point → ℕ) (items : List Item) (answers : List (ℕ × Verdict))
-    → AreVerdicts version f items answers → are_on items answers ≡ true
-verdicts-are-on version f [] [] are = refl
-verdicts-are-on version f [] (answer ∷ answers) are = absurd are
-verdicts-are-on version f (item ∷ items) [] are = absurd are
-verdicts-are-on version f (item ∷ items) (answer ∷ answers) are = and_from (item.place == answer.0)
+pub verdicts-are-on : (version horizon : ℕ) (f : Point → ℕ) (items : List Item) (answers : List (ℕ × Verdict))
+    → AreVerdicts version horizon f items answers → are_on items answers ≡ true
+verdicts-are-on version horizon f [] [] are = refl
+verdicts-are-on version horizon f [] (answer ∷ answers) are = absurd are
+verdicts-are-on version horizon f (item ∷ items) [] are = absurd are
+verdicts-are-on version horizon f (item ∷ items) (answer ∷ answers) are = and_from (item.place == answer.0)
     (are_on items answers) (eq-eqb item.place answer.0 (sym are.0))
-    (verdicts-are-on version (versions_with version item answer.1 f) items answers are.2)
+    (verdicts-are-on version horizon (versions_with version item answer.1 f) items answers are.2)

@@ -1,12 +1,12 @@
 -- What a resolver says of its part of a batch is what the rule over the book says.
-use Rattle.std.proofs.Common.{◌≡◌, ◌∙◌, sym, ap, subst, refl, ℕ, suc, ◌-◌, ◌≤◌, Bool, false, not, ◌||◌, ◌==◌, nat_lt}
+use Rattle.std.proofs.Common.{◌≡◌, ◌∙◌, sym, ap, subst, refl, ℕ, suc, ◌≤◌, Bool, false, not, ◌||◌, ◌==◌, nat_lt}
 use Rattle.std.proofs.Common.{List, [], ◌∷◌, length, ⊎_elim, arith}
 use Rattle.std.proofs.lemmas.Bool.{both_ways, and_right, or_left, false_from_ne_true, eqb-true, cond-true, cond-false}
 use Rattle.fdb_keys.specs.Points.{Point}
 use Rattle.fdb_txn.specs.book.Transactions.{Transaction}
 use Rattle.fdb_txn.specs.book.Book.{Head, Place, head_of, placed, add_places}
 use Rattle.fdb_txn.specs.book.History.{IsHistory}
-use Rattle.fdb_txn.specs.rules.Owners.{window, is_asked}
+use Rattle.fdb_txn.specs.rules.Owners.{is_asked}
 use Rattle.fdb_txn.specs.rules.Admission.{admits}
 use Rattle.fdb_txn.specs.rules.Resolvers.{part_writes, IsStateOf}
 use Rattle.fdb_txn.proofs.Exports.{asked_at_some_point, state_takes_place}
@@ -40,75 +40,74 @@ keeps-unasked splits i place earlier floor f history unasked state x v reached =
         (λ written. both_ways _ unasked ((asked_at_some_point splits i place).1 (x, or_left _ _ written)))
 
 -- what resolver i says of a batch, by a state that answers from a floor on
-module _ (splits : List Point) (head : Head) (i : ℕ) (floor : ℕ) (in_window : floor ≤ head.version - window)
-  where
-    -- Of such items after the earlier places, these verdicts are given; the versions then are a state of the later
-    -- places.
-    abbrev Judges : List Place → List Item → List (ℕ × Verdict) → List Place → Type 0
-    Judges earlier items said later =
-        (f : Point → ℕ) (answers : List (ℕ × Verdict)) → IsStateOf splits i earlier floor f
-        → AreVerdicts head.version f items answers
-        → (answers ≡ said) × IsStateOf splits i later floor (versions_after head.version f items answers)
+module _ (splits : List Point) (head : Head) (i : ℕ) (floor : ℕ) (reached_back : floor ≤ head.horizon) where
+  -- Of such items after the earlier places, these verdicts are given; the versions then are a state of the later
+  -- places.
+  abbrev Judges : List Place → List Item → List (ℕ × Verdict) → List Place → Type 0
+  Judges earlier items said later =
+      (f : Point → ℕ) (answers : List (ℕ × Verdict)) → IsStateOf splits i earlier floor f
+      → AreVerdicts head.version head.horizon f items answers
+      → (answers ≡ said) × IsStateOf splits i later floor (versions_after head.version f items answers)
 
-    judges-none : (places : List Place) → Judges places [] [] places
-    judges-none places f [] state are = (refl, state)
-    judges-none places f (answer ∷ answers) state are = absurd are
+  judges-none : (places : List Place) → Judges places [] [] places
+  judges-none places f [] state are = (refl, state)
+  judges-none places f (answer ∷ answers) state are = absurd are
 
-    -- one more place in front, of which the resolver is asked
-    judges-more : (t : Transaction) (earlier : List Place) (p : ℕ) (item : Item) (items : List Item)
-        (said : List (ℕ × Verdict)) (later : List Place)
-        → IsHistory (suc (length splits)) (placed head p t ∷ earlier) → item.place ≡ p
-        → IsItemOf splits i (placed head p t) item → Judges (placed head p t ∷ earlier) items said later
-        → Judges earlier (item ∷ items) ((p, verdict_at splits i earlier (placed head p t)) ∷ said) later
-    judges-more t earlier p item items said later history number of_place rest f [] state are = absurd are
-    judges-more t earlier p item items said later history number of_place rest f (answer ∷ answers) state are =
-        let place = placed head p t in
-        let verdict_is = verdicts_are_by_the_book splits i place earlier floor f item answer.1 history state in_window
-        of_place are.1 in
-        let numbered : answer.0 ≡ p = are.0 ∙ number in
-        let next = places_keep_state splits i place earlier floor f item answer.1 history state in_window of_place are.1
-        in
-        let others = rest (versions_with head.version item answer.1 f) answers next are.2 in
-        ((λ k. (numbered k, verdict_is k) ∷ others.0 k), others.1)
+  -- one more place in front, of which the resolver is asked
+  judges-more : (t : Transaction) (earlier : List Place) (p : ℕ) (item : Item) (items : List Item)
+      (said : List (ℕ × Verdict)) (later : List Place)
+      → IsHistory (suc (length splits)) (placed head p t ∷ earlier) → item.place ≡ p
+      → IsItemOf splits i (placed head p t) item → Judges (placed head p t ∷ earlier) items said later
+      → Judges earlier (item ∷ items) ((p, verdict_at splits i earlier (placed head p t)) ∷ said) later
+  judges-more t earlier p item items said later history number of_place rest f [] state are = absurd are
+  judges-more t earlier p item items said later history number of_place rest f (answer ∷ answers) state are =
+      let place = placed head p t in
+      let verdict_is = verdicts_are_by_the_book splits i place earlier floor f item answer.1 history state
+      reached_back of_place are.1 in
+      let numbered : answer.0 ≡ p = are.0 ∙ number in
+      let next = places_keep_state splits i place earlier floor f item answer.1 history state reached_back of_place
+      are.1 in
+      let others = rest (versions_with head.version item answer.1 f) answers next are.2 in
+      ((λ k. (numbered k, verdict_is k) ∷ others.0 k), others.1)
 
-    judges-batch : (batch : List Transaction) (earlier : List Place) (p : ℕ) (items : List Item)
-        → IsHistory (suc (length splits)) (add_places head p batch earlier)
-        → AreItems splits head i p batch items
-        → Judges earlier items (verdicts_from splits head i batch earlier p)
-        (add_places head p batch earlier)
-    judges-batch [] earlier p items history are =
-        subst (λ (its : List Item). Judges earlier its [] earlier) (sym are) (judges-none earlier)
-    judges-batch (t ∷ ts) earlier p items history are =
-        let place = placed head p t in
-        let later = add_places head (suc p) ts (place ∷ earlier) in
-        let now = history-before (suc (length splits)) head (suc p) ts (place ∷ earlier) history in
-        let said = verdicts_from splits head i ts (place ∷ earlier) (suc p) in
-        let here : ℕ × Verdict = (p, verdict_at splits i earlier place) in
-        ⊎_elim
-        (λ asked.
-        let its = asked.1 in
-        subst (λ (all : List Item). Judges earlier all (verdicts_from splits head i (t ∷ ts) earlier p) later)
-        (sym its.2)
-        (subst (λ (vs : List (ℕ × Verdict)). Judges earlier (its.0 ∷ its.1) vs later)
-        (sym (cond-true _ (here ∷ said) said asked.0))
-        (judges-more t earlier p its.0 its.1 said later now its.3 its.4
-        (judges-batch ts (place ∷ earlier) (suc p) its.1 history its.5))))
-        (λ unasked.
-        subst (λ (vs : List (ℕ × Verdict)). Judges earlier items vs later)
-        (sym (cond-false _ (here ∷ said) said unasked.0))
-        (λ f answers state verdicts_are.
-        judges-batch ts (place ∷ earlier) (suc p) items history unasked.1 f answers
-        (keeps-unasked splits i place earlier floor f now unasked.0 state) verdicts_are))
-        are
+  judges-batch : (batch : List Transaction) (earlier : List Place) (p : ℕ) (items : List Item)
+      → IsHistory (suc (length splits)) (add_places head p batch earlier)
+      → AreItems splits head i p batch items
+      → Judges earlier items (verdicts_from splits head i batch earlier p)
+      (add_places head p batch earlier)
+  judges-batch [] earlier p items history are =
+      subst (λ (its : List Item). Judges earlier its [] earlier) (sym are) (judges-none earlier)
+  judges-batch (t ∷ ts) earlier p items history are =
+      let place = placed head p t in
+      let later = add_places head (suc p) ts (place ∷ earlier) in
+      let now = history-before (suc (length splits)) head (suc p) ts (place ∷ earlier) history in
+      let said = verdicts_from splits head i ts (place ∷ earlier) (suc p) in
+      let here : ℕ × Verdict = (p, verdict_at splits i earlier place) in
+      ⊎_elim
+      (λ asked.
+      let its = asked.1 in
+      subst (λ (all : List Item). Judges earlier all (verdicts_from splits head i (t ∷ ts) earlier p) later)
+      (sym its.2)
+      (subst (λ (vs : List (ℕ × Verdict)). Judges earlier (its.0 ∷ its.1) vs later)
+      (sym (cond-true _ (here ∷ said) said asked.0))
+      (judges-more t earlier p its.0 its.1 said later now its.3 its.4
+      (judges-batch ts (place ∷ earlier) (suc p) its.1 history its.5))))
+      (λ unasked.
+      subst (λ (vs : List (ℕ × Verdict)). Judges earlier items vs later)
+      (sym (cond-false _ (here ∷ said) said unasked.0))
+      (λ f answers state verdicts_are.
+      judges-batch ts (place ∷ earlier) (suc p) items history unasked.1 f answers
+      (keeps-unasked splits i place earlier floor f now unasked.0 state) verdicts_are))
+      are
 
 pub batches_are_judged_by_the_rule : BatchesAreJudgedByTheRule
-batches_are_judged_by_the_rule splits head i batch earlier p items answers floor f history state in_window its are =
-    judges-batch splits head i floor in_window batch earlier p items history its f answers state are
+batches_are_judged_by_the_rule splits head i batch earlier p items answers floor f history state reached_back its are =
+    judges-batch splits head i floor reached_back batch earlier p items history its f answers state are
 
 pub entries_are_judged_by_the_rule : EntriesAreJudgedByTheRule
-entries_are_judged_by_the_rule splits i before entry items answers floor f history state in_window its are =
+entries_are_judged_by_the_rule splits i before entry items answers floor f history state reached_back its are =
     batches_are_judged_by_the_rule splits (head_of before entry) i entry.batch before.places 0 items answers floor f
-    history state in_window its are
+    history state reached_back its are
 
 -- a resolver has items exactly where it is asked about some place
 pub items_where_asked : ItemsWhereAsked

@@ -1,16 +1,14 @@
 -- A commit proxy, what each call answers, and what it leaves.
-use Rattle.std.specs.Prelude.{◌≡◌, ◌-◌, ◌<◌, ◌≤◌, ⊤, ℕ, max, min, Bool, true, false, not, ◌||◌, ◌++◌, nat_le, List, []}
+use Rattle.std.specs.Prelude.{◌≡◌, ◌<◌, ◌≤◌, ⊤, ℕ, max, min, Bool, true, false, not, ◌||◌, ◌++◌, nat_le, List, []}
 use Rattle.std.specs.Prelude.{◌∷◌, fold, length, replicate, take, drop, Option, Some, None, if◌then◌else◌}
 use Rattle.std.specs.List.{AllByRecursion, list_any}
 use Rattle.std.specs.Option.{option_or, is_none}
 use Rattle.fdb_keys.specs.Points.{Point}
 use Rattle.fdb_keys.specs.declared.refusal.Refusal.{Refusal}
 use Rattle.fdb_keys.specs.declared.refusal.Refusal.TheVariants.{NotYet, Stale, Failed, Repeated, WrongState, BadConfig}
-use Rattle.fdb_txn.specs.declared.entry.Move.{Move}
 use Rattle.fdb_txn.specs.declared.txn_id.TxnId.{TxnId}
 use Rattle.fdb_txn.specs.book.Book.{Stamped, add_moves}
 use Rattle.fdb_txn.specs.book.Transactions.{Transaction}
-use Rattle.fdb_txn.specs.rules.Owners.{window}
 use Rattle.fdb_txn.specs.Limits.{place_limit}
 use Rattle.fdb_owners.specs.Ownership.{Ownership, resolvers_of, IsNew}
 use Rattle.fdb_owners.specs.OwnersLaws.{AgreesWith}
@@ -82,7 +80,6 @@ pub record IsCommitProxy (p : CommitProxy) : Type 0 where
   pub some_log : 0 < p.logs
   pub stage : IsStage p p.stage
   pub learnt : p.owners.last ≤ p.last
-  pub floor : p.owners.floor ≤ p.last - window
 
 -- why there is no such proxy
 abbrev pub new_fault : ℕ → Config → Option Refusal
@@ -151,11 +148,13 @@ moves_with dated older =
     fold (λ (moves : List Stamped) (one : Dated). add_moves one.version one.moves moves) older dated
 
 -- The ticket may be learnt: its moves go to resolvers that exist, at versions that rise up to the ticket's, which lies
--- above what the batch read at.
+-- above what the batch read at. Its horizon lies below its version, and the owners have forgotten none from it on.
 pub record IsTicketFor (p : CommitProxy) (ticket : Ticket) : Type 0 where
   pub targets : GoToResolvers (resolvers_of p.owners) ticket.moves
   pub rising : AreRisingUpTo ticket.version ticket.moves
   pub later : AllByRecursion (λ (t : Transaction). t.read < ticket.version) p.batch
+  pub horizon : p.owners.floor ≤ ticket.horizon
+  pub below : ticket.horizon < ticket.version
 
 -- its version, or that of one of its moves, isn't above that of the last ticket
 abbrev pub is_stale : ℕ → Ticket → Bool
@@ -168,7 +167,8 @@ learn_fault p ticket =
     (if is_stale p.last ticket then Some Stale else None))
 
 abbrev pub position_of : Ticket → Position
-position_of ticket = record { index = ticket.index; version = ticket.version; prev = ticket.prev }
+position_of ticket =
+    record { index = ticket.index; version = ticket.version; prev = ticket.prev; horizon = ticket.horizon }
 
 -- before any verdicts came
 abbrev pub without_verdicts : Position → List Part → Resolving
@@ -179,10 +179,10 @@ without_verdicts position parts = record {
       replicate (length parts) None;
 }
 
--- owners that learnt the ticket's moves, and forgot what lies below the begin of its window
+-- owners that learnt the ticket's moves, and forgot what lies below its horizon
 pub record HaveLearnt (old : Ownership) (ticket : Ticket) (new : Ownership) : Type 0 where
   pub splits : new.splits ≡ old.splits
-  pub floor : new.floor ≡ max old.floor (ticket.version - window)
+  pub floor : new.floor ≡ max old.floor ticket.horizon
   pub moves : (moves : List Stamped) → AgreesWith old moves → AgreesWith new (moves_with ticket.moves moves)
 
 -- a batch at the position of a ticket, before any verdicts came, with a part for each resolver by whatever moves the
@@ -202,7 +202,8 @@ pub record HasLearntTicket (old : CommitProxy) (ticket : Ticket) (new : CommitPr
   pub without_verdicts : IsWithoutVerdicts new.owners ticket old.batch resolving
 
 -- It holds the batch as one with an entry, whose ticket it didn't learn, and refuses whatever comes. The ticket's
--- version is its last one, and the owners may have learnt some of the moves; all else is as it was.
+-- version is its last one, and the owners may have learnt some of the moves, and forgotten what lies below its horizon;
+-- all else is as it was.
 pub record HasFailed (old : CommitProxy) (ticket : Ticket) (new : CommitProxy) : Type 0 where
   pub rest : new ≡ record old {
     owners = new.owners;
@@ -211,6 +212,7 @@ pub record HasFailed (old : CommitProxy) (ticket : Ticket) (new : CommitProxy) :
     is_failed = true;
   }
   pub splits : new.owners.splits ≡ old.owners.splits
+  pub floor : new.owners.floor ≤ max old.owners.floor ticket.horizon
 
 -- the parts of the batch that waits for verdicts
 abbrev pub parts_in : Stage → List Part

@@ -1,13 +1,16 @@
--- Which configurations are legal, and which versions are granted, computed.
-use Rattle.std.specs.Prelude.{◌≡◌, ℕ, List, [], ◌∷◌, map, Some, None}
+-- Which configurations are legal, which versions are granted, and who is asked about reads, computed.
+use Rattle.std.specs.Prelude.{◌≡◌, ℕ, Bool, true, false, List, [], ◌∷◌, map, Some, None}
 use Rattle.std.specs.List.{range_with_len}
 use Rattle.fdb_keys.specs.Points.{Point}
 use Rattle.fdb_keys.specs.declared.refusal.Refusal.TheVariants.{BadConfig}
 use Rattle.fdb_mutations.specs.Examples.{one}
+use Rattle.fdb_txn.specs.book.Book.{Stamped, head_at}
+use Rattle.fdb_txn.specs.book.Transactions.{Transaction}
 use Rattle.fdb_proxy.specs.declared.config.Config.{Config}
 use Rattle.fdb_proxy.specs.Askers.{granted}
 use Rattle.fdb_proxy.specs.CommitProxies.{new_fault}
 use Rattle.fdb_proxy.specs.Configs.{config_fault}
+use Rattle.fdb_proxy.specs.Verdicts.{asks_about}
 
 -- so many proxies, logs and entries, with one resolver and one shard
 abbrev pub counts : (proxies logs book : ℕ) → Config
@@ -70,3 +73,34 @@ WorkedGrants =
     × (granted 100 (client, 101) ≡ (client, 101))
     × (map (granted 100) ((client, 40) ∷ (1, 140) ∷ (2, 0) ∷ (client, 100) ∷ [])
     ≡ (client, 100) ∷ (1, 140) ∷ (2, 100) ∷ (client, 100) ∷ [])
+
+-- of two resolvers, 0 has the keys below `m` and 1 the others, up to version 60, from which 0 has all
+abbrev pub moved : List Stamped
+moved = record { version = 60; range = record { begin = one 109; end = one 122 }; target = 0 } ∷ []
+
+-- a transaction that read `p` at the version
+abbrev pub reader : ℕ → Transaction
+reader version =
+    record {
+      id = record { session = 0; number = 0 };
+      read = version;
+      reads = record { begin = one 112; end = one 113 } ∷ [];
+      writes = [];
+      mutations = [];
+    }
+
+-- whether a resolver is asked about a transaction of version 200 with that horizon, which read at this version
+abbrev pub asks : (i horizon read : ℕ) → Bool
+asks i horizon read = asks_about (one 109 ∷ []) (head_at 200 horizon moved) i 0 (reader read ∷ [])
+
+-- Reads are asked of whoever owned them at a version above the read version, or above the horizon where that is
+-- greater: a read below the horizon is asked of the owners from the horizon on.
+abbrev pub WorkedSpans : Type 0
+WorkedSpans =
+    (asks 0 20 40 ≡ true)
+    × (asks 1 20 40 ≡ true)
+    × (asks 1 20 58 ≡ true)
+    × (asks 1 20 59 ≡ false)
+    × (asks 1 58 40 ≡ true)
+    × (asks 1 59 40 ≡ false)
+    × (asks 0 59 40 ≡ true)

@@ -44,15 +44,15 @@ proxy at is_failed =
 
 -- entry 4 of version 200
 abbrev pub here : Position
-here = record { index = 4; version = 200; prev = 100 }
+here = record { index = 4; version = 200; prev = 100; horizon = 50 }
 
 abbrev pub ticket : ℕ → Ticket
-ticket version = record { proxy = 0; index = 4; version = version; prev = 100; moves = []; pending = [] }
+ticket version = record { proxy = 0; index = 4; version = version; prev = 100; horizon = 50; moves = []; pending = [] }
 
 -- the part of a resolver, which is asked about the first place or about none
 abbrev pub part : ℕ → Bool → Part
 part resolver is_asked =
-    record { resolver = resolver; index = 4; version = 200; prev = 100; items = items is_asked }
+    record { resolver = resolver; index = 4; version = 200; prev = 100; horizon = 50; items = items is_asked }
   where
     items : Bool → List Item
     items true = record { place = 0; read_version = 0; has_reads = true; reads = []; writes = [] } ∷ []

@@ -76,4 +76,5 @@ pub record IsPartWith (position : Position) (i : ℕ) (given : List Item) (part 
   pub index : part.index ≡ position.index
   pub version : part.version ≡ position.version
   pub prev : part.prev ≡ position.prev
+  pub horizon : part.horizon ≡ position.horizon
   pub items : part.items ≡ given

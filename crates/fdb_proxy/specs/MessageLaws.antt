@@ -13,7 +13,7 @@ abbrev pub MessagesHoldTheCommitted : Type 0
 MessagesHoldTheCommitted =
     (splits shard_splits : List Point) (logs i : ℕ) (before : Seen) (entry : Entry) (acknowledged : List Bool)
     → messages_by shard_splits logs entry.batch (record {
-      position = record { index = i; version = entry.version; prev = entry.prev };
+      position = record { index = i; version = entry.version; prev = entry.prev; horizon = entry.horizon };
       answers = answers_by entry.batch (outcomes_on splits before entry);
       acknowledged = acknowledged;
     })

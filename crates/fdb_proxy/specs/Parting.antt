@@ -28,7 +28,8 @@ pub record IsPartOf (splits : List Point) (moves : List Stamped)
   pub index : part.index ≡ position.index
   pub version : part.version ≡ position.version
   pub prev : part.prev ≡ position.prev
-  pub items : AreItems splits (head_at position.version moves) i 0 batch part.items
+  pub horizon : part.horizon ≡ position.horizon
+  pub items : AreItems splits (head_at position.version position.horizon moves) i 0 batch part.items
 
 -- one part for each resolver
 pub record AreParts (splits : List Point) (moves : List Stamped) (position : Position) (batch : List Transaction)

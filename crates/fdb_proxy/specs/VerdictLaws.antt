@@ -1,11 +1,10 @@
 -- What the rule over the book says of resolvers' verdicts on a batch, and of what they decide.
-use Rattle.std.specs.Prelude.{◌≡◌, ◌≤◌, ◌-◌, ℕ, suc, false, not, ◌==◌, List, length, slice_get, Option, Some, None}
+use Rattle.std.specs.Prelude.{◌≡◌, ◌≤◌, ℕ, suc, false, not, ◌==◌, List, length, slice_get, Option, Some, None}
 use Rattle.fdb_keys.specs.Points.{Point}
 use Rattle.fdb_txn.specs.declared.entry.Entry.{Entry}
 use Rattle.fdb_txn.specs.book.Transactions.{Transaction}
 use Rattle.fdb_txn.specs.book.Book.{Head, Place, Seen, head_of, add_places, add_entry}
 use Rattle.fdb_txn.specs.book.History.{IsHistory}
-use Rattle.fdb_txn.specs.rules.Owners.{window}
 use Rattle.fdb_txn.specs.rules.Resolvers.{IsStateOf}
 use Rattle.fdb_resolver.specs.declared.part.Item.{Item}
 use Rattle.fdb_resolver.specs.declared.verdict.Verdict.{Verdict}
@@ -14,16 +13,16 @@ use Rattle.fdb_proxy.specs.Deciding.{Said, outcomes_by}
 use Rattle.fdb_proxy.specs.Parting.{AreItems}
 use Rattle.fdb_proxy.specs.Verdicts.{verdicts_from, asks_about, outcomes_from, verdicts_on, outcomes_on}
 
--- What a resolver says of its items of a batch, by a state that answers from a floor on that isn't above the begin of
--- the window, is what the rule over the book says; and the versions after the items are again such a state, of the
--- batch's places after the earlier ones.
+-- What a resolver says of its items of a batch, by a state that answers from a floor on that isn't above the horizon,
+-- is what the rule over the book says; and the versions after the items are again such a state, of the batch's places
+-- after the earlier ones.
 abbrev pub BatchesAreJudgedByTheRule : Type 0
 BatchesAreJudgedByTheRule =
     (splits : List Point) (head : Head) (i : ℕ) (batch : List Transaction) (earlier : List Place)
     (p : ℕ) (items : List Item) (answers : List (ℕ × Verdict)) (floor : ℕ) (f : Point → ℕ)
     → IsHistory (suc (length splits)) (add_places head p batch earlier)
-    → IsStateOf splits i earlier floor f → floor ≤ head.version - window
-    → AreItems splits head i p batch items → AreVerdicts head.version f items answers
+    → IsStateOf splits i earlier floor f → floor ≤ head.horizon
+    → AreItems splits head i p batch items → AreVerdicts head.version head.horizon f items answers
     → (answers ≡ verdicts_from splits head i batch earlier p)
     × IsStateOf splits i (add_places head p batch earlier) floor (versions_after head.version f items answers)
 
@@ -33,9 +32,9 @@ EntriesAreJudgedByTheRule =
     (splits : List Point) (i : ℕ) (before : Seen) (entry : Entry) (items : List Item) (answers : List (ℕ × Verdict))
     (floor : ℕ) (f : Point → ℕ)
     → IsHistory (suc (length splits)) (add_entry before entry).places
-    → IsStateOf splits i before.places floor f → floor ≤ entry.version - window
+    → IsStateOf splits i before.places floor f → floor ≤ entry.horizon
     → AreItems splits (head_of before entry) i 0 entry.batch items
-    → AreVerdicts entry.version f items answers
+    → AreVerdicts entry.version entry.horizon f items answers
     → (answers ≡ verdicts_on splits i before entry)
     × IsStateOf splits i (add_entry before entry).places floor (versions_after entry.version f items answers)
 

@@ -214,10 +214,12 @@ impl CommitCore {
 
     /// Learns the ticket of the batch: its moves, and what each resolver is asked about the batch. The ticket's version
     /// is above what the batch read at, and its moves, at versions that rise up to the ticket's, go to resolvers that
-    /// exist. Refused as `Failed`, as `WrongState` unless a batch is sealed, as `Stale` where the ticket's version or
-    /// that of one of its moves isn't above the last ticket's, and then nothing changes; and as `NoMemory`. Then the
-    /// proxy has failed and keeps the batch in flight, whose entry stands, so that it can't be unsealed. The ticket's
-    /// version is its last one, and it may have learnt some of the ticket's moves; all else is as it was.
+    /// exist. Its horizon lies below its version, and isn't below that of an earlier ticket: who owned what before the
+    /// horizon is forgotten. Refused as `Failed`, as `WrongState` unless a batch is sealed, as `Stale` where the
+    /// ticket's version or that of one of its moves isn't above the last ticket's, and then nothing changes; and as
+    /// `NoMemory`. Then the proxy has failed and keeps the batch in flight, whose entry stands, so that it can't be
+    /// unsealed. The ticket's version is its last one, and it may have learnt some of the ticket's moves, and forgotten
+    /// owners from before its horizon; all else is as it was.
     pub fn learn(&mut self, ticket: &Ticket) -> Result<(), Refusal>
         requires { IsTicketFor self.old.proxy ticket.now }
         ensures answers { Answers result (learn_fault self.old.proxy ticket.now)

@@ -2,14 +2,14 @@
 //! that use the proxies.
 ghost use Rattle.fdb_proxy.specs.CallExamples.{WorkedSubmitting, WorkedSealing, WorkedVerdict, WorkedDeciding};
 ghost use Rattle.fdb_proxy.specs.CallExamples.{WorkedLogged, WorkedFinishing};
-ghost use Rattle.fdb_proxy.specs.ConfigExamples.{WorkedConfigs, WorkedNumbers, WorkedGrants};
+ghost use Rattle.fdb_proxy.specs.ConfigExamples.{WorkedConfigs, WorkedNumbers, WorkedGrants, WorkedSpans};
 ghost use Rattle.fdb_proxy.specs.Examples.{WorkedSubmits, WorkedSeals, WorkedStages, WorkedTickets, WorkedVerdicts};
 ghost use Rattle.fdb_proxy.specs.Examples.{WorkedDecisions, WorkedLogging};
 ghost use Rattle.fdb_proxy.specs.MessageLaws.{MessagesHoldTheCommitted};
 ghost use Rattle.fdb_proxy.specs.VerdictLaws.{BatchesAreJudgedByTheRule, EntriesAreJudgedByTheRule, ItemsWhereAsked};
 ghost use Rattle.fdb_proxy.specs.VerdictLaws.{BatchesAreDecidedByTheRule, EntriesAreDecidedByTheRule};
 
-/// A resolver that is sent its part of a batch, and has forgotten what lies below the window, says of the batch
+/// A resolver that is sent its part of a batch, and has forgotten what lies below the horizon, says of the batch
 /// what the rule over the book says, and keeps the versions of which that rule speaks; so it does of an entry.
 pub fn what_a_resolver_says_of_its_part_is_the_rule()
     ensures batches { BatchesAreJudgedByTheRule }
@@ -58,9 +58,11 @@ pub fn worked_calls()
     ensures finishing { WorkedFinishing }
 {}
 
-/// Which configurations are legal, which proxies there are, and which versions those who ask are granted, by examples.
+/// Which configurations are legal, which proxies there are, which versions those who ask are granted, and who is asked
+/// about reads, by examples.
 pub fn worked_examples()
     ensures configs { WorkedConfigs }
     ensures numbers { WorkedNumbers }
     ensures grants { WorkedGrants }
+    ensures spans { WorkedSpans }
 {}

@@ -8,7 +8,6 @@ ghost use Rattle.fdb_keys.specs.Points.{Point};
 ghost use Rattle.fdb_keys.specs.Ranges.{in_set};
 ghost use Rattle.fdb_txn.specs.book.Book.{Stamped, Place, head_at, placed};
 ghost use Rattle.fdb_txn.specs.rules.Admission.{has_points};
-ghost use Rattle.fdb_txn.specs.rules.Owners.{window};
 ghost use Rattle.fdb_owners.specs.Ownership.{resolvers_of};
 ghost use Rattle.fdb_owners.specs.OwnersLaws.{AgreesWith};
 ghost use Rattle.fdb_owners.specs.Spreads.{AreOwned};
@@ -21,7 +20,7 @@ use crate::position::Position;
 use fdb_keys::{Items, RangeSet, Refusal, SharedList};
 use fdb_owners::{Owned, Owners};
 use fdb_resolver::{Item, Part};
-use fdb_txn::{Sealed, WINDOW};
+use fdb_txn::Sealed;
 use std::alloc::Global;
 
 // Of which keys of a transaction a part is.
@@ -52,18 +51,19 @@ fn has_points(set: &RangeSet) -> bool
     set.iter().any(|range| !range.is_empty())
 }
 
-// A transaction of the entry with the version, spread by owners that have learnt the moves through it.
-fn spread_txn(owners: &Owners, version: u64, txn: &Sealed) -> Result<Spread, Refusal>
+// A transaction of the entry with the version and horizon, spread by owners that have learnt the moves through it.
+fn spread_txn(owners: &Owners, version: u64, horizon: u64, txn: &Sealed) -> Result<Spread, Refusal>
     requires later { txn.now.read < version }
     requires learnt { owners.now.last ≤ version }
-    requires kept { owners.now.floor ≤ version - window }
+    requires kept { owners.now.floor ≤ horizon }
+    requires below { horizon < version }
     ensures owned { IfOk result (IsOwned (resolvers_of owners.now)) }
     ensures spread { Answers result None (λ spread. (moves : List Stamped) (number : ℕ)
         → AgreesWith owners.now moves
-        → IsSpreadOf owners.now.splits (placed (head_at version moves) number txn.now) spread) }
+        → IsSpreadOf owners.now.splits (placed (head_at version horizon moves) number txn.now) spread) }
 {
     let read_version = txn.read_version();
-    let from = read_version.max(version.saturating_sub(WINDOW));
+    let from = read_version.max(horizon);
     let reads = owners.readers_of(txn.reads(), from, version)?;
     let writes = owners.writers_of(txn.writes())?;
     let reading = Reading {
@@ -229,20 +229,22 @@ fn items_of(
     alloc: Global,
     owners: &Owners,
     version: u64,
+    horizon: u64,
     batch: &[Sealed],
 ) -> Result<Vec<Vec<Item>>, Refusal>
     requires few { length batch.now < 2 ^ 32 }
     requires later { All (λ t. t.read < version) batch.now }
     requires learnt { owners.now.last ≤ version }
-    requires kept { owners.now.floor ≤ version - window }
+    requires kept { owners.now.floor ≤ horizon }
+    requires below { horizon < version }
     ensures few { IfOk result (λ lists. length lists.items < 2 ^ 32) }
     ensures items { Answers result None (λ lists. (length lists.items ≡ resolvers_of owners.now)
         × ((i : ℕ) → i < resolvers_of owners.now → (moves : List Stamped) → AgreesWith owners.now moves
-        → AreItems owners.now.splits (head_at version moves) i 0 batch.now (items_at lists.items i))) }
+        → AreItems owners.now.splits (head_at version horizon moves) i 0 batch.now (items_at lists.items i))) }
 {
     let mut lists = no_items(alloc, owners.resolvers())?;
     for (place, txn) in batch.iter().enumerate() {
-        let spread = spread_txn(owners, version, txn)?;
+        let spread = spread_txn(owners, version, horizon, txn)?;
         hold_place(alloc, lists.as_mut_slice(), place as u32, spread)?;
     }
     Ok(lists)
@@ -267,6 +269,7 @@ fn parts_with(
             index: position.index,
             version: position.version,
             prev: position.prev,
+            horizon: position.horizon,
             items: SharedList::new(alloc, Items::from_vec(items))?,
         })?;
     }
@@ -274,9 +277,9 @@ fn parts_with(
 }
 
 /// The part of each resolver of the batch at the position, in the order of their numbers, by owners that have learnt
-/// the moves through the position's version and none after it, and have forgotten none from the begin of its window on.
-/// A resolver has an item for each transaction that it is asked about. Each transaction read below the version, and
-/// there are fewer than 2^32 of them. Refused only as `NoMemory`.
+/// the moves through the position's version and none after it, and have forgotten none from its horizon on. A resolver
+/// has an item for each transaction that it is asked about. The horizon and what each transaction read at lie below the
+/// version, and there are fewer than 2^32 transactions. Refused only as `NoMemory`.
 ///
 /// The owners tell who owns a whole set of the batch, if one look finds it, else who owns each of its ranges. What they
 /// told is then gone through once, whoever it is for: in O(n + r) time for n of their parts and r resolvers, beside
@@ -290,11 +293,12 @@ pub fn parts_of(
     requires few { length batch.now < 2 ^ 32 }
     requires later { All (λ t. t.read < position.version) batch.now }
     requires learnt { owners.now.last ≤ position.version }
-    requires kept { owners.now.floor ≤ position.version - window }
+    requires kept { owners.now.floor ≤ position.horizon }
+    requires below { position.horizon < position.version }
     ensures { Answers result None (λ parts. (moves : List Stamped) → AgreesWith owners.now moves
         → AreParts owners.now.splits moves position batch.now parts) }
 {
-    let lists = items_of(alloc, owners, position.version, batch)?;
+    let lists = items_of(alloc, owners, position.version, position.horizon, batch)?;
     let parts = parts_with(alloc, position, lists)?;
     Ok(parts)
 }

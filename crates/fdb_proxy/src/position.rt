@@ -7,4 +7,6 @@ pub struct Position {
     pub version: u64,
     /// The version of the entry before it, 0 where it is the first.
     pub prev: u64,
+    /// The horizon of the entry: its transactions that read below it are old.
+    pub horizon: u64,
 }

@@ -1,10 +1,9 @@
 // What a commit proxy makes of a ticket.
-ghost use Rattle.std.specs.Prelude.{◌≡◌, ◌<◌, ◌≤◌, ◌-◌, ◌^◌, nat_le, List, ℕ, length, None, IfOk};
+ghost use Rattle.std.specs.Prelude.{◌≡◌, ◌<◌, ◌≤◌, ◌^◌, nat_le, List, ℕ, length, None, IfOk};
 ghost use Rattle.std.specs.List.{AllByRecursion, list_any};
 ghost use Rattle.fdb_keys.specs.Answers.{Answers};
 ghost use Rattle.fdb_txn.specs.book.Transactions.{Transaction};
 ghost use Rattle.fdb_txn.specs.book.Book.{Stamped};
-ghost use Rattle.fdb_txn.specs.rules.Owners.{window};
 ghost use Rattle.fdb_owners.specs.Ownership.{resolvers_of};
 ghost use Rattle.fdb_owners.specs.OwnersLaws.{AgreesWith};
 ghost use Rattle.fdb_sequencer.specs.TicketLaws.{AreRisingUpTo, GoToResolvers};
@@ -16,7 +15,7 @@ use crate::resolving::Resolving;
 use fdb_keys::Refusal;
 use fdb_owners::Owners;
 use fdb_sequencer::{Dated, Ticket};
-use fdb_txn::{Sealed, WINDOW};
+use fdb_txn::Sealed;
 use std::alloc::Global;
 
 /// Whether the ticket's version, or that of one of its moves, isn't above the last one.
@@ -63,19 +62,21 @@ pub(crate) fn resolve(
     requires above { AllByRecursion (λ one. owners.old.last < one.version) ticket.now.moves }
     requires targets { GoToResolvers (resolvers_of owners.old) ticket.now.moves }
     requires through { owners.old.last ≤ ticket.now.version }
-    requires floor { owners.old.floor ≤ ticket.now.version - window }
+    requires floor { owners.old.floor ≤ ticket.now.horizon }
+    requires below { ticket.now.horizon < ticket.now.version }
     ensures answers { Answers result None (λ resolving. IsWithoutVerdicts owners.new ticket.now batch.now resolving) }
     ensures learnt { IfOk result (λ _. HaveLearnt owners.old ticket.now owners.new) }
     ensures splits { owners.new.splits ≡ owners.old.splits }
     ensures last { owners.new.last ≤ ticket.now.version }
-    ensures kept { owners.new.floor ≤ ticket.now.version - window }
+    ensures kept { owners.new.floor ≤ ticket.now.horizon }
 {
     learn_all(owners, ticket.moves.as_slice(), ticket.version)?;
-    owners.expire(ticket.version.saturating_sub(WINDOW));
+    owners.expire(ticket.horizon);
     let position = Position {
         index: ticket.index,
         version: ticket.version,
         prev: ticket.prev,
+        horizon: ticket.horizon,
     };
     let parts = parts_of(alloc, owners, position, batch)?;
     let resolving = Resolving::new(alloc, position, parts)?;

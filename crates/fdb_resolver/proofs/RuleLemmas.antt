@@ -25,30 +25,31 @@ newer-rest f range rest set version whole none = (
 )
 
 -- one place more, by the versions after those before it
-AreVerdicts-push : (version : ℕ) (f : Point → ℕ) (items : List Item) (answers : List (ℕ × Verdict)) (item : Item)
-    (verdict : Verdict)
-    → AreVerdicts version f items answers → IsVerdict version (versions_after version f items answers) item verdict
-    → AreVerdicts version f (items ++ item ∷ []) (answers ++ (item.place, verdict) ∷ [])
-AreVerdicts-push version f [] [] item verdict all here = (refl, here, tt)
-AreVerdicts-push version f [] (answer ∷ answers) item verdict all here = absurd all
-AreVerdicts-push version f (first ∷ items) [] item verdict all here = absurd all
-AreVerdicts-push version f (first ∷ items) (answer ∷ answers) item verdict all here = (
+AreVerdicts-push : (version horizon : ℕ) (f : Point → ℕ) (items : List Item) (answers : List (ℕ × Verdict))
+    (item : Item) (verdict : Verdict)
+    → AreVerdicts version horizon f items answers
+    → IsVerdict horizon (versions_after version f items answers) item verdict
+    → AreVerdicts version horizon f (items ++ item ∷ []) (answers ++ (item.place, verdict) ∷ [])
+AreVerdicts-push version horizon f [] [] item verdict all here = (refl, here, tt)
+AreVerdicts-push version horizon f [] (answer ∷ answers) item verdict all here = absurd all
+AreVerdicts-push version horizon f (first ∷ items) [] item verdict all here = absurd all
+AreVerdicts-push version horizon f (first ∷ items) (answer ∷ answers) item verdict all here = (
   all.0,
   all.1,
-  AreVerdicts-push version (versions_with version first answer.1 f) items answers item verdict all.2
+  AreVerdicts-push version horizon (versions_with version first answer.1 f) items answers item verdict all.2
       here,
 )
 
-versions_after-push : (version : ℕ) (f : Point → ℕ) (items : List Item) (answers : List (ℕ × Verdict)) (item : Item)
-    (verdict : Verdict)
-    → AreVerdicts version f items answers
+versions_after-push : (version horizon : ℕ) (f : Point → ℕ) (items : List Item) (answers : List (ℕ × Verdict))
+    (item : Item) (verdict : Verdict)
+    → AreVerdicts version horizon f items answers
     → versions_after version f (items ++ item ∷ []) (answers ++ (item.place, verdict) ∷ []) ≡ versions_with version item
     verdict (versions_after version f items answers)
-versions_after-push version f [] [] item verdict all = refl
-versions_after-push version f [] (answer ∷ answers) item verdict all = absurd all
-versions_after-push version f (first ∷ items) [] item verdict all = absurd all
-versions_after-push version f (first ∷ items) (answer ∷ answers) item verdict all =
-    versions_after-push version (versions_with version first answer.1 f) items answers item verdict all.2
+versions_after-push version horizon f [] [] item verdict all = refl
+versions_after-push version horizon f [] (answer ∷ answers) item verdict all = absurd all
+versions_after-push version horizon f (first ∷ items) [] item verdict all = absurd all
+versions_after-push version horizon f (first ∷ items) (answer ∷ answers) item verdict all =
+    versions_after-push version horizon (versions_with version first answer.1 f) items answers item verdict all.2
 
 -- a place leaves no version above its entry's
 with-below : (version : ℕ) (f : Point → ℕ) (item : Item) (verdict : Verdict) → ((x : Point) → f x ≤ version)
@@ -59,29 +60,29 @@ with-below version f item Conflict below x = below x
 with-below version f item Old below x = below x
 
 -- The places were judged by the versions f, and left the versions g.
-pub record AreJudged (version : ℕ) (f : Point → ℕ) (items : List Item)
+pub record AreJudged (version horizon : ℕ) (f : Point → ℕ) (items : List Item)
     (answers : List (ℕ × Verdict)) (g : Point → ℕ) : Type 0 where
-  pub verdicts : AreVerdicts version f items answers
+  pub verdicts : AreVerdicts version horizon f items answers
   pub versions : (x : Point) → g x ≡ versions_after version f items answers x
   pub below : (x : Point) → g x ≤ version
 
 -- one place more is judged
-pub judged-push : (version : ℕ) (f g h : Point → ℕ) (items more : List Item) (answers said : List (ℕ × Verdict))
+pub judged-push : (version horizon : ℕ) (f g h : Point → ℕ) (items more : List Item) (answers said : List (ℕ × Verdict))
     (item : Item) (verdict : Verdict)
     → more ≡ items ++ item ∷ [] → said ≡ answers ++ (item.place, verdict) ∷ []
-    → AreJudged version f items answers g → IsVerdict version g item verdict
+    → AreJudged version horizon f items answers g → IsVerdict horizon g item verdict
     → ((x : Point) → h x ≡ versions_with version item verdict g x)
-    → AreJudged version f more said h
-judged-push version f g h items more answers said item verdict is_more is_said judged here left =
+    → AreJudged version horizon f more said h
+judged-push version horizon f g h items more answers said item verdict is_more is_said judged here left =
     let after : g ≡ versions_after version f items answers = λ i x. judged.versions x i in
-    subst (λ (ms : List Item). AreJudged version f ms said h) (sym is_more)
-    (subst (λ (ns : List (ℕ × Verdict)). AreJudged version f (items ++ item ∷ []) ns h) (sym is_said)
+    subst (λ (ms : List Item). AreJudged version horizon f ms said h) (sym is_more)
+    (subst (λ (ns : List (ℕ × Verdict)). AreJudged version horizon f (items ++ item ∷ []) ns h) (sym is_said)
     record {
-      verdicts = AreVerdicts-push version f items answers item verdict judged.verdicts
-          (subst (λ (k : Point → ℕ). IsVerdict version k item verdict) after here);
+      verdicts = AreVerdicts-push version horizon f items answers item verdict judged.verdicts
+          (subst (λ (k : Point → ℕ). IsVerdict horizon k item verdict) after here);
       versions = λ x. left x ∙ ap (λ (k : Point → ℕ). versions_with version item verdict k x) after
           ∙ sym (ap (λ (k : Point → ℕ). k x)
-          (versions_after-push version f items answers item verdict judged.verdicts));
+          (versions_after-push version horizon f items answers item verdict judged.verdicts));
       below = λ x. let is = left x in let bounded = with-below version g item verdict judged.below x in omega
           (arith, is, bounded);
     })

@@ -1,11 +1,10 @@
 -- What a resolver keeps, why it refuses a part, and what it makes of one.
-use Rattle.std.specs.Prelude.{◌≡◌, ◌-◌, ℕ, Bool, true, false, not, ◌==◌, Option, Some, if◌then◌else◌}
+use Rattle.std.specs.Prelude.{◌≡◌, ℕ, Bool, true, false, not, ◌==◌, Option, Some, if◌then◌else◌}
 use Rattle.fdb_keys.specs.Points.{Point}
 use Rattle.fdb_keys.specs.declared.refusal.Refusal.{Refusal}
 use Rattle.fdb_keys.specs.declared.refusal.Refusal.TheVariants.{Failed, Unknown}
 use Rattle.fdb_interval.specs.declared.last_commit.LastCommit.{LastCommit}
 use Rattle.fdb_interval.specs.Versions.{version_at, forgetting}
-use Rattle.fdb_txn.specs.rules.Owners.{window}
 use Rattle.fdb_txn.specs.rules.Resolvers.{AgreeFrom}
 use Rattle.fdb_txn.specs.Turn.{turn_fault}
 use Rattle.fdb_resolver.specs.declared.part.Part.{Part}
@@ -38,17 +37,17 @@ pub record IsNew (number : ℕ) (core : Resolver) : Type 0 where
 pub record IsAnswer (core : Resolver) (part : Part) (verdicts : Verdicts) : Type 0 where
   pub resolver : verdicts.resolver ≡ core.index
   pub index : verdicts.index ≡ part.index
-  pub answers : AreVerdicts part.version (version_at core.versions) part.items verdicts.answers
+  pub answers : AreVerdicts part.version part.horizon (version_at core.versions) part.items verdicts.answers
 
--- What it keeps after a part: the versions after all places, with those up to the window's begin forgotten.
--- From the window's begin on, what it keeps answers as the versions after all places do.
+-- What it keeps after a part: the versions after all places, with those up to the part's horizon forgotten.
+-- From the horizon on, what it keeps answers as the versions after all places do.
 pub record HasTaken (old : Resolver) (part : Part) (verdicts : Verdicts) (new : Resolver) : Type 0 where
   pub index : new.index ≡ old.index
   pub last : new.last ≡ part.version
   pub works : new.is_failed ≡ false
-  pub kept : (x : Point) → version_at new.versions x ≡ forgetting (part.version - window)
+  pub kept : (x : Point) → version_at new.versions x ≡ forgetting part.horizon
       (versions_after part.version (version_at old.versions) part.items verdicts.answers) x
-  pub versions : AgreeFrom (part.version - window) (version_at new.versions)
+  pub versions : AgreeFrom part.horizon (version_at new.versions)
       (versions_after part.version (version_at old.versions) part.items verdicts.answers)
 
 -- it is the same resolver, and refuses every further part

@@ -1,15 +1,14 @@
 -- What a resolver says of the places of a part, by the version of each point.
-use Rattle.std.specs.Prelude.{◌≡◌, ◌<◌, ◌≤◌, ⊤, ℕ, ◌+◌, Bool, true, false, ◌&&◌, nat_lt, List, [], ◌∷◌, if◌then◌else◌}
+use Rattle.std.specs.Prelude.{◌≡◌, ◌<◌, ◌≤◌, ⊤, ℕ, Bool, true, false, ◌&&◌, nat_lt, List, [], ◌∷◌, if◌then◌else◌}
 use Rattle.fdb_keys.specs.Points.{Point}
 use Rattle.fdb_keys.specs.Ranges.{Range, in_set}
-use Rattle.fdb_txn.specs.rules.Owners.{window}
 use Rattle.fdb_resolver.specs.declared.part.Item.{Item}
 use Rattle.fdb_resolver.specs.declared.verdict.Verdict.{Verdict}
 use Rattle.fdb_resolver.specs.declared.verdict.Verdict.TheVariants.{Yes, Conflict, Old}
 
--- the transaction has reads, and its read version lies below the window
+-- the transaction has reads, and its read version lies below the horizon
 abbrev pub is_old : ℕ → Item → Bool
-is_old version item = item.has_reads && nat_lt (item.read_version + window) version
+is_old horizon item = item.has_reads && nat_lt item.read_version horizon
 
 -- some point of the set has a version above this one
 abbrev pub HasNewer : (Point → ℕ) → List Range → ℕ → Type 0
@@ -19,12 +18,12 @@ HasNewer f set version = (x : Point) × (in_set set x ≡ true) × (version < f 
 abbrev pub HasNoNewer : (Point → ℕ) → List Range → ℕ → Type 0
 HasNoNewer f set version = (x : Point) → in_set set x ≡ true → f x ≤ version
 
--- The verdict on a place, at the version of its entry and by the versions f of the points: old, or else a
+-- The verdict on a place, at the horizon of its entry and by the versions f of the points: old, or else a
 -- conflict where some point that it read has a version above its read version, or else yes.
 abbrev pub IsVerdict : ℕ → (Point → ℕ) → Item → Verdict → Type 0
-IsVerdict version f item Old = is_old version item ≡ true
-IsVerdict version f item Conflict = (is_old version item ≡ false) × HasNewer f item.reads item.read_version
-IsVerdict version f item Yes = (is_old version item ≡ false) × HasNoNewer f item.reads item.read_version
+IsVerdict horizon f item Old = is_old horizon item ≡ true
+IsVerdict horizon f item Conflict = (is_old horizon item ≡ false) × HasNewer f item.reads item.read_version
+IsVerdict horizon f item Yes = (is_old horizon item ≡ false) × HasNoNewer f item.reads item.read_version
 
 -- the versions after a place: it gives the points that it writes its entry's version, if it may commit
 abbrev pub versions_with : ℕ → Item → Verdict → (Point → ℕ) → Point → ℕ
@@ -32,14 +31,14 @@ versions_with version item Yes f x = if in_set item.writes x then version else f
 versions_with version item Conflict f x = f x
 versions_with version item Old f x = f x
 
--- one verdict on each place, with the place's number, by the versions after the places before it
-abbrev pub AreVerdicts : ℕ → (Point → ℕ) → List Item → List (ℕ × Verdict) → Type 0
-AreVerdicts version f [] [] = ⊤
-AreVerdicts version f [] (answer ∷ answers) = ⊥
-AreVerdicts version f (item ∷ items) [] = ⊥
-AreVerdicts version f (item ∷ items) (answer ∷ answers) =
-    (answer.0 ≡ item.place) × IsVerdict version f item answer.1
-    × AreVerdicts version (versions_with version item answer.1 f) items answers
+-- one verdict on each place of an entry, with the place's number, by the versions after the places before it
+abbrev pub AreVerdicts : (version horizon : ℕ) → (Point → ℕ) → List Item → List (ℕ × Verdict) → Type 0
+AreVerdicts version horizon f [] [] = ⊤
+AreVerdicts version horizon f [] (answer ∷ answers) = ⊥
+AreVerdicts version horizon f (item ∷ items) [] = ⊥
+AreVerdicts version horizon f (item ∷ items) (answer ∷ answers) =
+    (answer.0 ≡ item.place) × IsVerdict horizon f item answer.1
+    × AreVerdicts version horizon (versions_with version item answer.1 f) items answers
 
 -- the versions after all places
 abbrev pub versions_after : ℕ → (Point → ℕ) → List Item → List (ℕ × Verdict) → Point → ℕ

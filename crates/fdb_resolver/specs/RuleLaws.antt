@@ -1,9 +1,8 @@
 -- What the rule says of the places of a book.
-use Rattle.std.specs.Prelude.{◌≡◌, ◌≤◌, ◌-◌, ℕ, suc, List, ◌∷◌, length, if◌then◌else◌}
+use Rattle.std.specs.Prelude.{◌≡◌, ◌≤◌, ℕ, suc, List, ◌∷◌, length, if◌then◌else◌}
 use Rattle.fdb_keys.specs.Points.{Point}
 use Rattle.fdb_keys.specs.Ranges.{in_set}
 use Rattle.fdb_txn.specs.book.Book.{Place}
-use Rattle.fdb_txn.specs.rules.Owners.{window}
 use Rattle.fdb_txn.specs.rules.Admission.{has_points, is_fresh, admits}
 use Rattle.fdb_txn.specs.book.History.{IsHistory}
 use Rattle.fdb_txn.specs.rules.Resolvers.{part_reads, part_writes, IsStateOf}
@@ -24,15 +23,15 @@ abbrev pub verdict_by_book : List Point → ℕ → List Place → Place → Ver
 verdict_by_book splits i earlier place =
     if is_fresh place then (if admits splits i earlier place then Yes else Conflict) else Old
 
--- What resolver i says of a place, by a state that answers from a floor on that isn't above the begin of the
--- place's window, is what the rule over the book says.
+-- What resolver i says of a place, by a state that answers from a floor on that isn't above the place's
+-- horizon, is what the rule over the book says.
 abbrev pub VerdictsAreByTheBook : Type 0
 VerdictsAreByTheBook =
     (splits : List Point) (i : ℕ) (place : Place) (earlier : List Place) (floor : ℕ) (f : Point → ℕ) (item : Item)
     (verdict : Verdict)
     → IsHistory (suc (length splits)) (place ∷ earlier) → IsStateOf splits i earlier floor f
-    → floor ≤ place.version - window
-    → IsItemOf splits i place item → IsVerdict place.version f item verdict
+    → floor ≤ place.horizon
+    → IsItemOf splits i place item → IsVerdict place.horizon f item verdict
     → verdict ≡ verdict_by_book splits i earlier place
 
 -- And the versions after the place are again such a state.
@@ -41,6 +40,6 @@ PlacesKeepState =
     (splits : List Point) (i : ℕ) (place : Place) (earlier : List Place) (floor : ℕ) (f : Point → ℕ) (item : Item)
     (verdict : Verdict)
     → IsHistory (suc (length splits)) (place ∷ earlier) → IsStateOf splits i earlier floor f
-    → floor ≤ place.version - window
-    → IsItemOf splits i place item → IsVerdict place.version f item verdict
+    → floor ≤ place.horizon
+    → IsItemOf splits i place item → IsVerdict place.horizon f item verdict
     → IsStateOf splits i (place ∷ earlier) floor (versions_with place.version item verdict f)

@@ -11,7 +11,6 @@ use crate::part::Item;
 use crate::verdict::Verdict;
 use fdb_interval::LastCommit;
 use fdb_keys::{Items, RangeSet, Refusal};
-use fdb_txn::WINDOW;
 use std::alloc::Global;
 
 fn are_any_newer(versions: &LastCommit, reads: &RangeSet, version: u64) -> bool
@@ -25,10 +24,10 @@ fn are_any_newer(versions: &LastCommit, reads: &RangeSet, version: u64) -> bool
     false
 }
 
-fn judge(versions: &LastCommit, version: u64, item: &Item) -> Verdict
-    ensures { IsVerdict version (version_at versions.now) item.now result }
+fn judge(versions: &LastCommit, horizon: u64, item: &Item) -> Verdict
+    ensures { IsVerdict horizon (version_at versions.now) item.now result }
 {
-    if item.has_reads && item.read_version < version.saturating_sub(WINDOW) {
+    if item.has_reads && item.read_version < horizon {
         Verdict::Old
     } else if are_any_newer(versions, &item.reads, item.read_version) {
         Verdict::Conflict
@@ -50,30 +49,36 @@ fn mark_all(versions: &mut LastCommit, writes: &RangeSet, version: u64) -> Resul
 }
 
 // Judges one place, and marks what it writes if it may commit.
-fn judge_item(versions: &mut LastCommit, version: u64, item: &Item) -> Result<Verdict, Refusal>
+fn judge_item(
+    versions: &mut LastCommit,
+    version: u64,
+    horizon: u64,
+    item: &Item,
+) -> Result<Verdict, Refusal>
     requires { (x : Point) → version_at versions.old x ≤ version }
-    ensures verdict { Answers result None (λ verdict. IsVerdict version (version_at versions.old) item.now verdict) }
+    ensures verdict { Answers result None (λ verdict. IsVerdict horizon (version_at versions.old) item.now verdict) }
     ensures versions { IfOk result
         (λ verdict. (x : Point)
         → version_at versions.new x ≡ versions_with version item.now verdict (version_at versions.old) x) }
 {
-    let verdict = judge(versions, version, item);
+    let verdict = judge(versions, horizon, item);
     if verdict == Verdict::Yes {
         mark_all(versions, &item.writes, version)?;
     }
     Ok(verdict)
 }
 
-/// Judges the places one after another.
+/// Judges the places of an entry with this version and horizon one after another.
 pub(crate) fn judge_items(
     alloc: Global,
     versions: &mut LastCommit,
     version: u64,
+    horizon: u64,
     items: &[Item],
 ) -> Result<Items<(u32, Verdict)>, Refusal>
     requires { (x : Point) → version_at versions.old x ≤ version }
-    ensures verdicts { Answers result None (λ answers. AreVerdicts version (version_at versions.old) items.now
-        answers) }
+    ensures verdicts { Answers result None (λ answers. AreVerdicts version horizon (version_at versions.old)
+        items.now answers) }
     ensures versions { IfOk result
         (λ answers. (x : Point)
         → version_at versions.new x ≡ versions_after version (version_at versions.old) items.now answers x) }
@@ -81,7 +86,7 @@ pub(crate) fn judge_items(
 {
     let mut answers = Items::new(alloc);
     for item in items {
-        let verdict = judge_item(versions, version, item)?;
+        let verdict = judge_item(versions, version, horizon, item)?;
         answers.push((item.place, verdict))?;
     }
     Ok(answers)

@@ -12,6 +12,8 @@ pub struct Part {
     pub version: u64,
     /// The version of the entry before it, 0 where it is the first.
     pub prev: u64,
+    /// The horizon of the entry: a transaction with reads that read below it is old.
+    pub horizon: u64,
     /// The places, each after those before it.
     pub items: SharedList<Item>,
 }

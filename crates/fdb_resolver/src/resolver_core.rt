@@ -3,7 +3,7 @@ use crate::part::Part;
 use crate::verdict::Verdicts;
 use fdb_interval::LastCommit;
 use fdb_keys::Refusal;
-use fdb_txn::{WINDOW, check_turn};
+use fdb_txn::check_turn;
 use std::alloc::Global;
 use std::marker::Model;
 
@@ -55,14 +55,14 @@ impl ResolverCore {
     }
 
     /// Takes the resolver's part of an entry, and says of each place, as the places before it left the
-    /// versions, whether it is old, conflicts, or may commit. Places that may commit give the points that
-    /// they write the part's version. Refused as `Unknown` where the part is another resolver's, as `Failed`
-    /// once memory ran out in an earlier call, as `Stale` where the entry before the part's lies before the
-    /// last one taken, as `NotYet` with that entry's version where it hasn't been taken, and as `NoMemory`.
-    /// The resolver stays as it was where it is refused, but for `NoMemory`, after which it has failed.
-    /// A part's version is above that of the entry before it, its places rise, and of a transaction without
-    /// reads it has none. Versions that lie the window of 5,000,000 or more below the part's are forgotten: a
-    /// point with such a version has 0 from then on, and every greater version is kept.
+    /// versions, whether it is old, conflicts, or may commit. It is old where it has reads, and read below the
+    /// part's horizon. Places that may commit give the points that they write the part's version. Refused as
+    /// `Unknown` where the part is another resolver's, as `Failed` once memory ran out in an earlier call, as
+    /// `Stale` where the entry before the part's lies before the last one taken, as `NotYet` with that entry's
+    /// version where it hasn't been taken, and as `NoMemory`. The resolver stays as it was where it is refused,
+    /// but for `NoMemory`, after which it has failed. A part's version is above that of the entry before it, its
+    /// places rise, and of a transaction without reads it has none. Versions that aren't above the part's horizon
+    /// are forgotten: a point with such a version has 0 from then on, and every greater version is kept.
     pub fn take(&mut self, part: &Part) -> Result<Verdicts, Refusal>
         requires { IsPart part.now }
         ensures answers { Answers result (part_fault self.old part.now)
@@ -76,11 +76,12 @@ impl ResolverCore {
             self.alloc,
             &mut self.versions,
             part.version,
+            part.horizon,
             part.items.as_slice(),
         );
         match judged {
             Ok(answers) => {
-                self.versions.expire(part.version.saturating_sub(WINDOW));
+                self.versions.expire(part.horizon);
                 self.last = part.version;
                 Ok(Verdicts {
                     resolver: self.index,

@@ -1,6 +1,6 @@
 // Calls where memory runs out: the value has failed then, and refuses the next such call. Each test prints how its call
 // ended, for runs in which one growth of memory is refused, each time another one.
-ghost use Rattle.std.specs.Prelude.{◌<◌};
+ghost use Rattle.std.specs.Prelude.{◌<◌, ◌≤◌};
 ghost use Rattle.std.specs.List.{AllByRecursion};
 ghost use Rattle.fdb_log.specs.Peeks.{IsPeek};
 ghost use Rattle.fdb_proxy.specs.CommitProxies.{CommitProxy, IsTicketFor};
@@ -62,7 +62,7 @@ fn made(end: Result<End, u32>) -> End {
 }
 
 // A read and a write.
-static READ_AND_WRITE: Row = (0, [100, 0], &[(0, Some(b"a"), b"z")], &[], Ok(true));
+static READ_AND_WRITE: Row = (0, [100, 0, 0], &[(0, Some(b"a"), b"z")], &[], Ok(true));
 
 fn take_twice(core: &mut ResolverCore, part: &Part) -> End
     requires { IsPart part.now }
@@ -123,20 +123,23 @@ fn shard_end(alloc: Global) -> End {
     made(ask_mut(new_shard(alloc, b"", b"m"), |shard| apply_two(shard, alloc)))
 }
 
-// The code of the answer to the ticket. The batch stays.
+// The code of the answer to the ticket. The batch stays, and no owner is forgotten from the ticket's horizon on.
 fn learn(core: &mut CommitCore, ticket: &Ticket) -> u32
     requires ticket { (p : CommitProxy) → AllByRecursion (λ (t : Transaction). t.read < 100) p.batch
-        → IsTicketFor p ticket.now }
+        → p.owners.floor ≤ ticket.now.horizon → IsTicketFor p ticket.now }
     requires batch { AllByRecursion (λ (t : Transaction). t.read < 100) core.old.proxy.batch }
-    ensures { AllByRecursion (λ (t : Transaction). t.read < 100) core.new.proxy.batch }
+    requires floor { core.old.proxy.owners.floor ≤ ticket.now.horizon }
+    ensures batch { AllByRecursion (λ (t : Transaction). t.read < 100) core.new.proxy.batch }
+    ensures floor { core.new.proxy.owners.floor ≤ ticket.now.horizon }
 {
     code_of(core.learn(ticket))
 }
 
 fn learn_twice(core: &mut CommitCore, ticket: &Ticket) -> End
     requires ticket { (p : CommitProxy) → AllByRecursion (λ (t : Transaction). t.read < 100) p.batch
-        → IsTicketFor p ticket.now }
+        → p.owners.floor ≤ ticket.now.horizon → IsTicketFor p ticket.now }
     requires batch { AllByRecursion (λ (t : Transaction). t.read < 100) core.old.proxy.batch }
+    requires floor { core.old.proxy.owners.floor ≤ ticket.now.horizon }
 {
     let first = learn(core, ticket);
     let has_failed = core.is_failed();

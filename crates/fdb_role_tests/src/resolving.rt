@@ -13,11 +13,11 @@ use std::alloc::Global;
 /// A place: its read version, the key that it reads, if there is one, and the key that it writes.
 pub type Place = (u64, Option<&'static [u8]>, &'static [u8]);
 
-/// A part of the entry with index 7: the resolver, the version and the previous version, and the places. Then the
-/// verdicts, and whether they are given, or the code of the refusal and the number that it names.
+/// A part of the entry with index 7: the resolver, the version, the previous version and the horizon, and the places.
+/// Then the verdicts, and whether they are given, or the code of the refusal and the number that it names.
 pub type Row = (
     u32,
-    [u64; 2],
+    [u64; 3],
     &'static [Place],
     &'static [(u32, Verdict)],
     Result<bool, (u32, u64)>,
@@ -28,7 +28,7 @@ const CASES: &[&[Row]] = &[
     // A later place conflicts with an earlier one.
     &[(
         0,
-        [100, 0],
+        [100, 0, 0],
         &[(0, Some(b"a"), b"a"), (0, Some(b"a"), b"a")],
         &[(0, Verdict::Yes), (1, Verdict::Conflict)],
         Ok(true),
@@ -37,34 +37,76 @@ const CASES: &[&[Row]] = &[
     &[
         (
             0,
-            [100, 0],
+            [100, 0, 0],
             &[(0, Some(b"a"), b"z")],
             &[(0, Verdict::Yes)],
             Ok(true),
         ),
         (
             0,
-            [200, 100],
+            [200, 100, 0],
             &[(0, Some(b"z"), b"z")],
             &[(0, Verdict::Conflict)],
             Ok(true),
         ),
     ],
-    // Reads below the window are old.
+    // Reads below the horizon are old, as those below the first window are.
     &[
-        (0, [100, 0], &[], &[], Ok(true)),
+        (0, [100, 0, 0], &[], &[], Ok(true)),
         (
             0,
-            [5_000_100, 100],
+            [5_000_100, 100, 100],
             &[(100, Some(b"a"), b"b")],
             &[(0, Verdict::Yes)],
             Ok(true),
         ),
         (
             0,
-            [5_000_101, 5_000_100],
+            [5_000_101, 5_000_100, 101],
             &[(100, Some(b"a"), b"c"), (100, None, b"d")],
             &[(0, Verdict::Old), (1, Verdict::Yes)],
+            Ok(true),
+        ),
+    ],
+    // Reads just at the horizon are judged, wherever it lies.
+    &[
+        (
+            0,
+            [100, 0, 0],
+            &[(0, None, b"z")],
+            &[(0, Verdict::Yes)],
+            Ok(true),
+        ),
+        (
+            0,
+            [300, 100, 200],
+            &[(200, Some(b"z"), b"b"), (199, Some(b"z"), b"c")],
+            &[(0, Verdict::Yes), (1, Verdict::Old)],
+            Ok(true),
+        ),
+    ],
+    // Versions up to the horizon are forgotten, and greater ones are kept: a later part with a lesser horizon shows it.
+    &[
+        (
+            0,
+            [100, 0, 0],
+            &[(0, None, b"a")],
+            &[(0, Verdict::Yes)],
+            Ok(true),
+        ),
+        (
+            0,
+            [101, 100, 0],
+            &[(0, None, b"z")],
+            &[(0, Verdict::Yes)],
+            Ok(true),
+        ),
+        (0, [200, 101, 100], &[], &[], Ok(true)),
+        (
+            0,
+            [300, 200, 0],
+            &[(50, Some(b"a"), b"b"), (50, Some(b"z"), b"c")],
+            &[(0, Verdict::Yes), (1, Verdict::Conflict)],
             Ok(true),
         ),
     ],
@@ -72,15 +114,21 @@ const CASES: &[&[Row]] = &[
     &[
         (
             0,
-            [100, 0],
+            [100, 0, 0],
             &[(0, Some(b"a"), b"z")],
             &[(0, Verdict::Yes)],
             Ok(true),
         ),
-        (0, [100, 0], &[(0, Some(b"a"), b"z")], &[], Err((9003, 0))),
         (
             0,
-            [200, 150],
+            [100, 0, 0],
+            &[(0, Some(b"a"), b"z")],
+            &[],
+            Err((9003, 0)),
+        ),
+        (
+            0,
+            [200, 150, 0],
             &[(0, Some(b"z"), b"z")],
             &[],
             Err((9002, 150)),
@@ -88,10 +136,16 @@ const CASES: &[&[Row]] = &[
     ],
     // Refused parts change nothing.
     &[
-        (1, [100, 0], &[(0, Some(b"a"), b"z")], &[], Err((9016, 0))),
+        (
+            1,
+            [100, 0, 0],
+            &[(0, Some(b"a"), b"z")],
+            &[],
+            Err((9016, 0)),
+        ),
         (
             0,
-            [100, 0],
+            [100, 0, 0],
             &[(0, Some(b"z"), b"a")],
             &[(0, Verdict::Yes)],
             Ok(true),
@@ -146,7 +200,7 @@ fn items_of(alloc: Global, places: &[Place]) -> Result<Items<Item>, Refusal>
 pub fn part(alloc: Global, row: &Row) -> Result<Part, Refusal>
     ensures { IfOk result (λ part. IsPart part) }
 {
-    let (resolver, [version, prev], places, _, _) = *row;
+    let (resolver, [version, prev, horizon], places, _, _) = *row;
     let items = shared(alloc, items_of(alloc, places)?)?;
     if prev >= version {
         return Err(Refusal::Chain);
@@ -156,6 +210,7 @@ pub fn part(alloc: Global, row: &Row) -> Result<Part, Refusal>
         index: 7,
         version,
         prev,
+        horizon,
         items,
     })
 }

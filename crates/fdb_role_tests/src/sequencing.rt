@@ -35,6 +35,9 @@ enum Act {
     Accept,
     // The proxy's tickets for an advance of 100, so many one after another.
     Take(u32, u32),
+    // The version and the horizon of proxy 0's ticket for the advance, which is taken.
+    TakeOne(u64, [u64; 2]),
+    Window(u64),
     // Moves from m to the end to the resolver, so many one after another.
     Move(&'static [u8], u32, u32),
     Report(u64),
@@ -123,6 +126,35 @@ const CASES: &[(u32, u64, (u32, u64), &[(Act, Told)])] = &[
         &[
             (Act::EqualsPlanned(100), YES),
             (Act::EqualsPlanned(101), Ok(false)),
+        ],
+    ),
+    // Windows are at least one and at most five million, and horizons never fall, also where the window grows.
+    (
+        3,
+        0,
+        (0, 100),
+        &[
+            (Act::Window(0), Err(9009)),
+            (Act::Window(5_000_001), Err(9009)),
+            (Act::Window(150), YES),
+            (Act::TakeOne(100, [100, 0]), YES),
+            (Act::TakeOne(150, [250, 100]), YES),
+            (Act::Window(5_000_000), YES),
+            (Act::TakeOne(1, [251, 100]), YES),
+            (Act::Window(1), YES),
+            (Act::TakeOne(1, [252, 251]), YES),
+        ],
+    ),
+    // A ticket from before another window is stale where that makes another horizon.
+    (
+        3,
+        0,
+        (0, 100),
+        &[
+            (Act::Window(99), YES),
+            (Act::Accept, Err(9003)),
+            (Act::Window(100), YES),
+            (Act::Accept, YES),
         ],
     ),
     // Moves go to resolvers that exist, and aren't empty.
@@ -214,6 +246,13 @@ fn take_tickets(core: &mut SequencerCore, proxy: u32, count: u32) -> Result<bool
     Ok(true)
 }
 
+// Whether proxy 0's ticket for the advance, which is taken, has the version and the horizon.
+fn take_one(core: &mut SequencerCore, advance: u64, wanted: [u64; 2]) -> Result<bool, Refusal> {
+    let ticket = core.plan(0, advance)?;
+    core.accept(&ticket)?;
+    Ok([ticket.version, ticket.horizon] == wanted)
+}
+
 // Whether these are moves of `[m, t)` to the resolvers, in order.
 fn go_to(moves: &[Move], targets: &[u32]) -> bool {
     moves.len() == targets.len()
@@ -262,6 +301,8 @@ fn act_on(
         }
         Act::Accept => is_done(core.accept(planned)),
         Act::Take(proxy, count) => take_tickets(core, proxy, count),
+        Act::TakeOne(advance, wanted) => take_one(core, advance, wanted),
+        Act::Window(window) => is_done(core.set_window(window)),
         Act::Move(end, to, count) => make_moves(core, alloc, end, to, count),
         Act::Report(version) => is_done(core.report(version)),
         Act::Committed(version) => Ok(core.committed() == version),

@@ -1,7 +1,7 @@
 -- The batch of an entry of a book, while its commit proxy learns the ticket, hears verdicts, decides and hears logs.
 use Rattle.std.proofs.Common.{◌≡◌, ◌∙◌, refl, sym, ap, ap₂, subst, ⊎_elim, ℕ, zero, suc, ◌<◌, Bool, true, false, ◌&&◌}
 use Rattle.std.proofs.Common.{List, [], ◌∷◌, ◌++◌, length, take, replicate, Option, Some, None, slice_get, slice_set}
-use Rattle.std.proofs.Common.{if◌then◌else◌, arith}
+use Rattle.std.proofs.Common.{if◌then◌else◌, ◌≤◌, arith}
 use Rattle.std.specs.Prelude.{nat_le}
 use Rattle.std.specs.List.{AllByRecursion, list_any}
 use Rattle.std.proofs.lemmas.Bool.{cases_eq, lt-leb}
@@ -37,10 +37,12 @@ use Rattle.fdb_proxy.specs.Verdicts.{moves_through, verdicts_on, is_needed, outc
 use Rattle.fdb_proxy.specs.VerdictLaws.{AreByTheRule}
 use Rattle.fdb_proxy.proofs.Exports.{messages_hold_the_committed, entries_are_decided_by_the_rule, items_where_asked}
 use Rattle.fdb_roles.specs.ProxyStages.{IsStageAt, IsCommitProxyAt, IsBatchOf, IsResolving, IsLogging, IsSaid}
+use Rattle.fdb_roles.specs.ProxyStages.{position_in}
 use Rattle.fdb_roles.specs.Entries.{dated_moves, entry_of}
 use Rattle.fdb_roles.proofs.AllLemmas.{within-item}
 use Rattle.fdb_roles.proofs.ListLemmas.{last-at, set-here, set-other}
-use Rattle.fdb_roles.proofs.BookLemmas.{entries-take, last-push, seen-before-last, seen_before-next}
+use Rattle.fdb_roles.proofs.BookLemmas.{entries-take, last-push, last_horizon-push, seen-before-last}
+use Rattle.fdb_roles.proofs.BookLemmas.{seen_before-next}
 use Rattle.fdb_roles.proofs.MoveLemmas.{moves-append, moves-of-book}
 
 -- moves that are all above a version
@@ -51,13 +53,15 @@ fresh-moves last (of ∷ moves) above = rw (lt-leb of.version last above.0) (fre
 
 -- A ticket that may be learnt by who had one of a version.
 module _ (splits : List Point) (p : Core) (ticket : Ticket) (same : p.owners.splits ≡ splits)
-    (may : MayBeLearnt (suc (length splits)) p.last ticket) where
+    (may : MayBeLearnt (suc (length splits)) p.last p.owners.floor ticket) where
   -- is for a proxy that had it, where it is above what the batch read at
   pub ticket-fits : AllByRecursion (λ (t : Transaction). t.read < ticket.version) p.batch → IsTicketFor p ticket
   ticket-fits later = record {
     targets = subst (λ (ss : List Point). GoToResolvers (suc (length ss)) ticket.moves) (sym same) may.targets;
     rising = may.rising;
     later = later;
+    horizon = may.horizon;
+    below = may.below;
   }
 
   -- and isn't refused where the batch is sealed
@@ -83,7 +87,7 @@ pub record IsLearnt (config : Config) (before : List Entry) (old new : Core) (ti
 -- A proxy that has some of these entries learnt a ticket with the moves of the others.
 module _ (config : Config) (front before : List Entry) (old new : Core) (ticket : Ticket)
     (had : IsCommitProxyAt config front old) (learnt : HasLearntTicket old ticket new)
-    (number : ticket.index ≡ length before)
+    (number : ticket.index ≡ length before) (low : old.owners.floor ≤ ticket.horizon)
     (all : dated_moves front ++ ticket.moves ≡ dated_moves (before ++ entry_of ticket old.batch ∷ [])) where
   abbrev splits : List Point
   splits = config.resolver_splits
@@ -119,7 +123,7 @@ module _ (config : Config) (front before : List Entry) (old new : Core) (ticket 
   waits-learnt : IsResolving splits grown (length before) entry learnt.resolving
   waits-learnt = record {
     parts = subst (λ (n : ℕ). AreParts splits (moves_through (seen_before grown (length before)) entry)
-        (record { index = n; version = ticket.version; prev = ticket.prev }) old.batch learnt.resolving.parts) number
+        (position_in n entry) old.batch learnt.resolving.parts) number
         (subst (λ (s : Seen). AreParts splits (moves_through s entry) (position_of ticket) old.batch
         learnt.resolving.parts) (sym (seen-before-last before entry)) parts-learnt);
     count = ap (λ (r : Unheard). length r.verdicts) learnt.without_verdicts.rest
@@ -149,9 +153,14 @@ module _ (config : Config) (front before : List Entry) (old new : Core) (ticket 
         version = ap (λ (p : Position). p.version) at;
         prev = ap (λ (p : Position). p.prev) at;
         places = ap (λ (p : Core). p.batch) learnt.rest;
+        horizon = ap (λ (p : Position). p.horizon) at;
       },
       waits-learnt,
     );
+    floor =
+        let floor = learnt.learnt.floor in
+        let horizon = last_horizon-push before entry in
+        omega (arith, floor, low, horizon);
   }
 
   pub is-learnt : IsLearnt config before old new ticket learnt.resolving
@@ -267,7 +276,12 @@ module _ (config : Config) (book : List Entry) (i : ℕ) (entry : Entry) (decide
       ≡ log_messages config.resolver_splits config.shard_splits config.logs i (seen_before book i) entry
   messages-decided shard_splits logs batch splits_are logs_are its =
       (λ k. messages_by (splits_are k) (logs_are k) (its.places k) (record {
-        position = record { index = its.index k; version = its.version k; prev = its.prev k };
+        position = record {
+          index = its.index k;
+          version = its.version k;
+          prev = its.prev k;
+          horizon = its.horizon k;
+        };
         answers = is.answers k;
         acknowledged = decided.acknowledged;
       }))

@@ -1,15 +1,15 @@
 -- Fronts of a book, and the versions of its entries.
 use Rattle.std.proofs.Common.{◌≡◌, ◌∙◌, refl, ap, ℕ, zero, suc, ◌+◌, ◌-◌, ◌≤◌, List, [], ◌∷◌, ◌++◌, length, take, Some}
-use Rattle.std.proofs.Common.{arith, le_refl}
+use Rattle.std.proofs.Common.{arith, le_refl, le_trans, le_of_lt}
 use Rattle.std.specs.List.{slice_get}
 use Rattle.std.proofs.lemmas.Grind.{fold-append}
 use Rattle.std.proofs.lemmas.List.{take_all, take-append-le}
 use Rattle.std.proofs.lemmas.Option.{slice_get_within}
 use Rattle.fdb_txn.specs.declared.entry.Entry.{Entry}
-use Rattle.fdb_txn.specs.book.Book.{add_entry, seen_of, last_version, seen_before}
-use Rattle.fdb_txn.specs.book.History.{AreEntries}
-use Rattle.fdb_txn.specs.laws.SerialMapLaws.{version_after}
-use Rattle.fdb_txn.proofs.Exports.{seen_of-push}
+use Rattle.fdb_txn.specs.book.Book.{add_entry, seen_of, last_version, last_horizon, seen_before}
+use Rattle.fdb_txn.specs.book.History.{AreEntries, HorizonsRise}
+use Rattle.fdb_txn.specs.laws.SerialMapLaws.{version_after, horizon_after}
+use Rattle.fdb_txn.proofs.Exports.{horizons_part, seen_of-push}
 use Rattle.fdb_roles.specs.Entries.{IsRising}
 use Rattle.fdb_roles.proofs.AllLemmas.{within-item}
 
@@ -58,6 +58,33 @@ take-take (x ∷ xs) (suc p) (suc t) h = ap (λ ys. x ∷ ys) (take-take xs p t 
 -- the last version of a book that grows
 pub last-push : (book : List Entry) (entry : Entry) → last_version (book ++ entry ∷ []) ≡ entry.version
 last-push book entry = fold-append (λ (last : ℕ) (e : Entry). e.version) 0 book (entry ∷ [])
+
+-- the last horizon of a book that grows
+pub last_horizon-push : (book : List Entry) (entry : Entry) → last_horizon (book ++ entry ∷ []) ≡ entry.horizon
+last_horizon-push book entry = fold-append (λ (last : ℕ) (e : Entry). e.horizon) 0 book (entry ∷ [])
+
+-- where horizons never fall, one more entry's is no less than the last one
+pub last-risen : (book : List Entry) (entry : Entry) → HorizonsRise 0 (book ++ entry ∷ [])
+    → last_horizon book ≤ entry.horizon
+last-risen book entry rise = ((horizons_part 0 book (entry ∷ [])).0 rise).1.0
+
+-- the last horizon is no greater than the last version
+pub horizon-within : (resolvers floor last : ℕ) (book : List Entry) → floor ≤ last → AreEntries resolvers last book
+    → horizon_after floor book ≤ version_after last book
+horizon-within resolvers floor last [] within entries = within
+horizon-within resolvers floor last (entry ∷ book) within entries =
+    horizon-within resolvers entry.horizon entry.version book (le_of_lt entries.1.1) entries.4
+
+-- Where horizons never fall, they don't among the first entries,
+pub rise-take : (last n : ℕ) (book : List Entry) → HorizonsRise last book → HorizonsRise last (take n book)
+rise-take last zero book rise = tt
+rise-take last (suc n) [] rise = tt
+rise-take last (suc n) (entry ∷ book) rise = (rise.0, rise-take entry.horizon n book rise.1)
+
+-- nor after a lesser horizon
+pub rise-lower : (low last : ℕ) (book : List Entry) → low ≤ last → HorizonsRise last book → HorizonsRise low book
+rise-lower low last [] lower rise = tt
+rise-lower low last (entry ∷ book) lower rise = (le_trans lower rise.0, rise.1)
 
 -- no entry's version is above the last
 module _ (book : List Entry) (rising : IsRising book) (i : ℕ) (entry : Entry) (there : slice_get book i ≡ Some entry)

@@ -4,7 +4,9 @@ pub use Rattle.fdb_roles.proofs.AllLemmas.{all-set, all-take, contains-item, ite
 pub use Rattle.fdb_roles.proofs.BatchStages.{IsLearnt, asked, is-learnt, messages-decided, outcomes-decided}
 pub use Rattle.fdb_roles.proofs.BatchStages.{ticket-fits, ticket-learns}
 pub use Rattle.fdb_roles.proofs.BodyLemmas.{length-answers, length-outcomes_on}
-pub use Rattle.fdb_roles.proofs.BookLemmas.{below-last, entries-take, last-above, last-push, seen-before-last}
+pub use Rattle.fdb_roles.proofs.BookLemmas.{below-last, entries-take, last-above, last-push, last-risen}
+pub use Rattle.fdb_roles.proofs.BookLemmas.{horizon-within, last_horizon-push, rise-lower, rise-take}
+pub use Rattle.fdb_roles.proofs.BookLemmas.{seen-before-last}
 pub use Rattle.fdb_roles.proofs.BookLemmas.{seen-front, seen_before-next, take-next, take-take}
 pub use Rattle.fdb_roles.proofs.CommittedLaws.{reads_of_the_committed_stand}
 pub use Rattle.fdb_roles.proofs.ExtendsLemmas.{Extends, history-earlier, map-extends}
@@ -24,11 +26,11 @@ pub use Rattle.fdb_roles.proofs.ProxyLaws.{new_proxies_have_no_entry, proxies_an
 pub use Rattle.fdb_roles.proofs.ProxyLaws.{proxies_decide_by_the_rule, proxies_hear_logs, proxies_hear_verdicts}
 pub use Rattle.fdb_roles.proofs.ProxyLaws.{proxies_learn_their_tickets, requests_come_and_go, stays}
 pub use Rattle.fdb_roles.proofs.ResolverLemmas.{are-parts, follows, history, is-part, may-follow, may-take}
-pub use Rattle.fdb_roles.proofs.ResolverLemmas.{new-resolver, position, same-parts, takes}
+pub use Rattle.fdb_roles.proofs.ResolverLemmas.{new-resolver, same-parts, takes}
 pub use Rattle.fdb_roles.proofs.RoleExamplesLemmas.{an_empty_shard_does_not_serve}
 pub use Rattle.fdb_roles.proofs.RoleLaws.{log_goes_on, resolver_goes_on, sequencer_goes_on, shard_goes_on_by_its_log}
 pub use Rattle.fdb_roles.proofs.RoleStartLaws.{log_pops, sequencer_moves, sequencer_reports, sequencer_starts}
-pub use Rattle.fdb_roles.proofs.RoleStartLaws.{shard_starts}
+pub use Rattle.fdb_roles.proofs.RoleStartLaws.{sequencer_windows, shard_starts}
 pub use Rattle.fdb_roles.proofs.RunLaws.{entries-below, entries-linked, entries-rising, front-version, map-between}
 pub use Rattle.fdb_roles.proofs.RunLaws.{serial-front, versions-apart, versions-ordered}
 pub use Rattle.fdb_roles.proofs.StartLemmas.{legal-from, none-unlearnt}

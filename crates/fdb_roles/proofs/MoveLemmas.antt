@@ -1,6 +1,6 @@
 -- The moves of a book, as they are handed out and learnt.
 use Rattle.std.proofs.Common.{◌≡◌, ◌≢◌, ◌∙◌, refl, sym, ap, ℕ, zero, suc, ◌+◌, ◌<◌, ◌≤◌, List, [], ◌∷◌, ◌++◌, length}
-use Rattle.std.proofs.Common.{map, fold, subst, unwrap_or, arith}
+use Rattle.std.proofs.Common.{map, fold, subst, unwrap_or, arith, le_trans}
 use Rattle.std.specs.List.{AllByRecursion, slice_get, slice_set}
 use Rattle.std.proofs.lemmas.List.{append-nil, append_assoc, length-map, length-set}
 use Rattle.std.proofs.lemmas.List.Sums.{fold-append, sum_by_push}
@@ -8,7 +8,7 @@ use Rattle.fdb_keys.proofs.Exports.{all-append, all-weaken}
 use Rattle.fdb_txn.specs.declared.entry.Entry.{Entry}
 use Rattle.fdb_txn.specs.declared.entry.Move.{Move}
 use Rattle.fdb_txn.specs.book.Book.{Seen, Stamped, add_entry, add_moves, last_version, nothing, seen_of}
-use Rattle.fdb_txn.specs.book.History.{AreEntries}
+use Rattle.fdb_txn.specs.book.History.{AreEntries, HorizonsRise}
 use Rattle.fdb_txn.specs.laws.SerialMapLaws.{version_after}
 use Rattle.fdb_txn.proofs.Exports.{entries-split}
 use Rattle.fdb_sequencer.specs.declared.ticket.Ticket.{Ticket}
@@ -106,6 +106,18 @@ module _ (resolvers : ℕ) where
       let others = later-than first.version more entry are.4 in
       omega (arith, later, others)
 
+  -- the horizon of the last of some entries is below its version,
+  last-below : (last : ℕ) (more : List Entry) (entry : Entry) → AreEntries resolvers last (more ++ entry ∷ [])
+      → entry.horizon < entry.version
+  last-below last [] entry are = are.1.1
+  last-below last (first ∷ more) entry are = last-below first.version more entry are.4
+
+  -- and no less than a horizon before them
+  risen : (floor : ℕ) (more : List Entry) (entry : Entry) → HorizonsRise floor (more ++ entry ∷ [])
+      → floor ≤ entry.horizon
+  risen floor [] entry rise = rise.0
+  risen floor (first ∷ more) entry rise = le_trans rise.0 (risen first.horizon more entry rise.1)
+
   version-push : (last : ℕ) (more : List Entry) (entry : Entry)
       → version_after last (more ++ entry ∷ []) ≡ entry.version
   version-push last [] entry = refl
@@ -119,10 +131,11 @@ module _ (resolvers : ℕ) where
       (subst (AreEntries resolvers 0) (append_assoc front between (entry ∷ [])) entries)).1
 
   -- and so may the ticket of the last one, that tells them all
-  pub ticket-after : (last : ℕ) (more : List Entry) (entry : Entry) (ticket : Ticket)
-      → AreEntries resolvers last (more ++ entry ∷ []) → entry.version ≡ ticket.version
-      → ticket.moves ≡ dated_moves (more ++ entry ∷ []) → MayBeLearnt resolvers last ticket
-  ticket-after last more entry ticket are version moves =
+  pub ticket-after : (last floor : ℕ) (more : List Entry) (entry : Entry) (ticket : Ticket)
+      → AreEntries resolvers last (more ++ entry ∷ []) → HorizonsRise floor (more ++ entry ∷ [])
+      → entry.version ≡ ticket.version → entry.horizon ≡ ticket.horizon
+      → ticket.moves ≡ dated_moves (more ++ entry ∷ []) → MayBeLearnt resolvers last floor ticket
+  ticket-after last floor more entry ticket are rise version horizon moves =
       let all = more ++ entry ∷ [] in
       let through : version_after last all ≡ ticket.version = version-push last more entry ∙ version in
       record {
@@ -131,6 +144,8 @@ module _ (resolvers : ℕ) where
         rising = subst (AreRisingUpTo ticket.version) (sym moves)
             (moves-rising last ticket.version all are (omega (arith, through)));
         targets = subst (GoToResolvers resolvers) (sym moves) (moves-exist last all are);
+        horizon = let low = risen floor more entry rise in omega (arith, low, horizon);
+        below = let below = last-below last more entry are in omega (arith, below, version, horizon);
       }
 
 -- so many moves there are with one more entry

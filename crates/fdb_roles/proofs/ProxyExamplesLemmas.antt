@@ -1,6 +1,6 @@
 -- Which commit proxies have which entries, computed.
 use Rattle.std.proofs.Common.{◌≡◌, ◌∙◌, refl, sym, ap, ap₂, arith, ℕ, suc, le_refl, Bool, true, false, List, [], ◌∷◌}
-use Rattle.std.proofs.Common.{slice_get}
+use Rattle.std.proofs.Common.{slice_get, ◌≤◌}
 use Rattle.std.specs.Prelude.{codes}
 use Rattle.std.proofs.lemmas.Bool.{true≢false}
 use Rattle.std.proofs.lemmas.Option.{same_Some}
@@ -16,7 +16,7 @@ use Rattle.fdb_roles.specs.SmallBooks.{two_in_one_entry}
 use Rattle.fdb_roles.specs.ProxyExamples.{OtherProxiesAreElsewhere, both}
 
 the_entry : Entry
-the_entry = record { version = 100; prev = 0; moves = []; batch = both }
+the_entry = record { version = 100; prev = 0; horizon = 0; moves = []; batch = both }
 
 commits_second : List (TxnId × Outcome) → Bool
 commits_second [] = false
@@ -34,6 +34,7 @@ other_proxies_are_elsewhere = (
     owners = λ x v from. refl;
     last = refl;
     stage = refl;
+    floor = le_refl 0;
   },
   record {
     works = refl;
@@ -43,11 +44,13 @@ other_proxies_are_elsewhere = (
     owners = λ x v from. refl;
     last = refl;
     stage = refl;
+    floor = le_refl 0;
   },
   (λ at. let wrong : 100 ≡ 0 = at.last in omega (arith, wrong)),
   (λ at. let wrong : 0 ≡ 100 = at.last in omega (arith, wrong)),
   (λ at. true≢false at.works),
   (λ at. let wrong : 1 ≡ 0 = at.owners (codes "a") 0 (le_refl 0) in omega (arith, wrong)),
+  (λ at. let wrong : 1 ≤ 0 = at.floor in omega (arith, wrong)),
   record {
     works = refl;
     logs = refl;
@@ -59,9 +62,10 @@ other_proxies_are_elsewhere = (
       0,
       the_entry,
       refl,
-      record { there = refl; index = refl; version = refl; prev = refl; places = refl },
+      record { there = refl; index = refl; version = refl; prev = refl; places = refl; horizon = refl },
       record { answers = refl; count = refl },
     );
+    floor = le_refl 0;
   },
   (λ at.
       let first : 0 ≡ at.stage.0 = at.stage.3.index in

@@ -8,8 +8,9 @@ use Rattle.fdb_keys.specs.declared.refusal.Refusal.{Refusal}
 use Rattle.fdb_keys.specs.declared.refusal.Refusal.TheVariants.{WrongState}
 use Rattle.fdb_keys.proofs.Exports.{all-weaken}
 use Rattle.fdb_txn.specs.declared.entry.Entry.{Entry}
-use Rattle.fdb_txn.specs.book.Book.{seen_of, seen_before}
-use Rattle.fdb_txn.specs.book.History.{AreEntries}
+use Rattle.fdb_txn.specs.book.Book.{seen_of, seen_before, last_horizon}
+use Rattle.fdb_txn.specs.book.History.{AreEntries, HorizonsRise}
+use Rattle.fdb_txn.proofs.Exports.{horizons_part}
 use Rattle.fdb_txn.specs.book.Places.{place_of}
 use Rattle.fdb_txn.specs.book.Transactions.{Transaction, NamesWrites}
 use Rattle.fdb_owners.proofs.Exports.{new_goes_on}
@@ -37,12 +38,13 @@ use Rattle.fdb_roles.specs.ProxyLaws.{IsLastEntry, NewProxiesHaveNoEntry, Batche
 use Rattle.fdb_roles.specs.ProxyLaws.{ProxiesLearnTheirTickets, ProxiesHearVerdicts, ProxiesDecideByTheRule}
 use Rattle.fdb_roles.specs.ProxyLaws.{MessagesAreOfTheEntry, ProxiesHearLogs, ProxiesAnswerByTheRule}
 use Rattle.fdb_roles.specs.ProxyLaws.{AnswersAreByTheRule}
-use Rattle.fdb_roles.specs.ProxyStages.{IsStageAt, IsCommitProxyAt}
+use Rattle.fdb_roles.specs.ProxyStages.{IsStageAt, IsCommitProxyAt, position_in}
 use Rattle.fdb_roles.specs.Entries.{dated_moves, entry_of}
 use Rattle.fdb_roles.proofs.BodyLemmas.{length-answers, length-outcomes_on}
 use Rattle.fdb_roles.proofs.PlaceLemmas.{place-by-rule}
 use Rattle.fdb_roles.proofs.BatchStages.{IsLearnt, is-learnt, ticket-fits, ticket-learns, resolving-heard}
 use Rattle.fdb_roles.proofs.BatchStages.{outcomes-decided, answers-decided, logging-heard, messages-decided}
+use Rattle.fdb_roles.proofs.BookLemmas.{rise-lower}
 use Rattle.fdb_roles.proofs.MoveLemmas.{dated_moves-append, entries-behind, ticket-after}
 use Rattle.fdb_roles.proofs.ResolverLemmas.{entries-after}
 
@@ -55,6 +57,7 @@ new_proxies_have_no_entry config index proxy new = record {
   owners = new_goes_on config.resolver_splits proxy.owners new.owners;
   last = ap (λ (p : CommitProxy). p.last) new.rest;
   stage = subst (λ (p : CommitProxy). IsStageAt config [] p.batch p.stage) (sym new.rest) refl;
+  floor = let floor = new.owners.floor in omega (arith, floor);
 }
 
 -- A proxy that has the entries.
@@ -70,6 +73,7 @@ module _ (config : Config) (front : List Entry) (proxy : CommitProxy) (at : IsCo
     owners = at.owners;
     last = at.last;
     stage = is;
+    floor = at.floor;
   }
 
   unsealed : IsCommitProxyAt config front (unsealing proxy)
@@ -115,6 +119,7 @@ module _ (config : Config) (front between : List Entry) (old : CommitProxy) (tic
     (at : IsCommitProxyAt config front old)
     (entries : AreEntries (suc (length config.resolver_splits)) 0
     ((front ++ between) ++ entry_of ticket old.batch ∷ []))
+    (rise : HorizonsRise 0 ((front ++ between) ++ entry_of ticket old.batch ∷ []))
     (number : ticket.index ≡ length (front ++ between))
     (moves : ticket.moves ≡ dated_moves (between ++ entry_of ticket old.batch ∷ [])) where
   abbrev entry : Entry
@@ -128,8 +133,15 @@ module _ (config : Config) (front between : List Entry) (old : CommitProxy) (tic
   behind = subst (λ (last : ℕ). AreEntries (suc (length config.resolver_splits)) last (between ++ entry ∷ []))
       (sym at.last) (entries-behind (suc (length config.resolver_splits)) front between entry entries)
 
-  may : MayBeLearnt (suc (length config.resolver_splits)) old.last ticket
-  may = ticket-after (suc (length config.resolver_splits)) old.last between entry ticket behind refl moves
+  -- and no horizon there is below those up to which its owners forgot
+  risen : HorizonsRise old.owners.floor (between ++ entry ∷ [])
+  risen = rise-lower old.owners.floor (last_horizon front) (between ++ entry ∷ []) at.floor
+      ((horizons_part 0 front (between ++ entry ∷ [])).0
+      (subst (HorizonsRise 0) (append_assoc front between (entry ∷ [])) rise)).1
+
+  may : MayBeLearnt (suc (length config.resolver_splits)) old.last old.owners.floor ticket
+  may = ticket-after (suc (length config.resolver_splits)) old.last old.owners.floor between entry ticket behind risen
+      refl refl moves
 
   may-learn : IsTicketFor old ticket
   may-learn = ticket-fits config.resolver_splits old ticket at.splits may
@@ -154,7 +166,7 @@ module _ (config : Config) (front between : List Entry) (old : CommitProxy) (tic
   -- once it is learnt
   module _ (new : CommitProxy) (learnt : HasLearntTicket old ticket new) where
     its : IsLearnt config before old new ticket learnt.resolving
-    its = is-learnt config front before old new ticket at learnt number all-moves
+    its = is-learnt config front before old new ticket at learnt number may.horizon all-moves
 
     unheard : new.stage ≡ core.Resolving (without_verdicts (position_of ticket) (parts_in new.stage))
     unheard = its.stage ∙ ap core.Resolving learnt.without_verdicts.rest
@@ -162,22 +174,22 @@ module _ (config : Config) (front between : List Entry) (old : CommitProxy) (tic
         (sym its.stage)
 
     parts-there : AreParts config.resolver_splits (moves_through (seen_of before) entry)
-        (record { index = length before; version = entry.version; prev = entry.prev }) entry.batch (parts_in new.stage)
+        (position_in (length before) entry) entry.batch (parts_in new.stage)
     parts-there = subst (λ (stage : CoreStage). AreParts config.resolver_splits (moves_through (seen_of before) entry)
-        (record { index = length before; version = entry.version; prev = entry.prev }) entry.batch (parts_in stage))
+        (position_in (length before) entry) entry.batch (parts_in stage))
         (sym its.stage)
         (subst (λ (n : ℕ). AreParts config.resolver_splits (moves_through (seen_of before) entry)
-        (record { index = n; version = entry.version; prev = entry.prev }) entry.batch learnt.resolving.parts) number
+        (position_in n entry) entry.batch learnt.resolving.parts) number
         its.parts)
 
 pub proxies_learn_their_tickets : ProxiesLearnTheirTickets
-proxies_learn_their_tickets config front between old ticket at entries number moves = (
-  may-learn config front between old ticket at entries number moves,
-  learns config front between old ticket at entries number moves,
+proxies_learn_their_tickets config front between old ticket at entries rise number moves = (
+  may-learn config front between old ticket at entries rise number moves,
+  learns config front between old ticket at entries rise number moves,
   λ new learnt. (
-    (its config front between old ticket at entries number moves new learnt).at,
-    unheard config front between old ticket at entries number moves new learnt,
-    parts-there config front between old ticket at entries number moves new learnt,
+    (its config front between old ticket at entries rise number moves new learnt).at,
+    unheard config front between old ticket at entries rise number moves new learnt,
+    parts-there config front between old ticket at entries rise number moves new learnt,
   ),
 )
 

@@ -1,7 +1,7 @@
 -- A resolver that took the entries before another one says of its part of that what the rule says, and has then taken
 -- it, too.
-use Rattle.std.proofs.Common.{◌≡◌, ◌∙◌, sym, ap, subst, ℕ, suc, ◌-◌, ◌<◌, true, not, nat_lt, List, [], ◌∷◌, ◌++◌}
-use Rattle.std.proofs.Common.{length, Option, Some, None, ⊎_elim, arith}
+use Rattle.std.proofs.Common.{◌≡◌, ◌∙◌, sym, ap, subst, ℕ, suc, ◌<◌, true, not, nat_lt, List, [], ◌∷◌, ◌++◌}
+use Rattle.std.proofs.Common.{◌≤◌, length, Option, Some, None, ⊎_elim, arith}
 use Rattle.std.specs.List.{All, AllByRecursion}
 use Rattle.std.proofs.lemmas.Bool.{and_parts, cond-false, eq-eqb, le-ltb}
 use Rattle.std.proofs.lemmas.List.Elements.{All-from_recursion}
@@ -12,9 +12,8 @@ use Rattle.fdb_interval.specs.Versions.{version_at}
 use Rattle.fdb_txn.specs.declared.entry.Entry.{Entry}
 use Rattle.fdb_txn.specs.declared.entry.Move.{Move}
 use Rattle.fdb_txn.specs.book.Transactions.{Transaction, NamesWrites}
-use Rattle.fdb_txn.specs.book.Book.{Stamped, Head, Place, Seen, head_at, add_entry, seen_of, last_version}
+use Rattle.fdb_txn.specs.book.Book.{Stamped, Head, Place, Seen, head_at, add_entry, seen_of, last_version, last_horizon}
 use Rattle.fdb_txn.specs.book.History.{IsHistory, AreEntries}
-use Rattle.fdb_txn.specs.rules.Owners.{window}
 use Rattle.fdb_txn.specs.rules.Admission.{has_points}
 use Rattle.fdb_txn.specs.rules.Resolvers.{AgreeFrom, IsStateOf}
 use Rattle.fdb_txn.specs.laws.SerialMapLaws.{version_after}
@@ -24,7 +23,7 @@ use Rattle.fdb_resolver.specs.declared.part.Item.{Item}
 use Rattle.fdb_resolver.specs.declared.part.Part.{Part}
 use Rattle.fdb_resolver.specs.Parts.{AreRising, IsPart}
 use Rattle.fdb_resolver.specs.Resolvers.{Resolver, part_fault, IsNew}
-use Rattle.fdb_resolver.specs.Rule.{AreVerdicts, versions_after}
+use Rattle.fdb_resolver.specs.Rule.{versions_after}
 use Rattle.fdb_proxy.specs.declared.position.Position.{Position}
 use Rattle.fdb_proxy.specs.Deciding.{Said}
 use Rattle.fdb_proxy.specs.Parting.{AreItems, IsPartOf, AreParts}
@@ -33,7 +32,8 @@ use Rattle.fdb_proxy.proofs.Exports.{entries_are_judged_by_the_rule}
 use Rattle.fdb_roles.specs.Judging.{MayFollow, HasSaid}
 use Rattle.fdb_roles.specs.AtBook.{IsResolverAt}
 use Rattle.fdb_roles.proofs.AllLemmas.{within-item}
-use Rattle.fdb_roles.proofs.BookLemmas.{last-push}
+use Rattle.fdb_roles.specs.ProxyStages.{position_in}
+use Rattle.fdb_roles.proofs.BookLemmas.{last-push, last_horizon-push}
 
 -- what is sent of a batch from place p on
 module _ (splits : List Point) (head : Head) (i : ℕ) where
@@ -90,8 +90,8 @@ pub is-part : (splits : List Point) (moves : List Stamped) (position : Position)
     (part : Part) → position.prev < position.version → IsPartOf splits moves position batch i part → IsPart part
 is-part splits moves position batch i part later of = record {
   later = let prev = of.prev in let version = of.version in omega (arith, later, prev, version);
-  rising = items-rising splits (head_at position.version moves) i 0 batch part.items of.items;
-  reads = items-reads splits (head_at position.version moves) i 0 batch part.items of.items;
+  rising = items-rising splits (head_at position.version position.horizon moves) i 0 batch part.items of.items;
+  reads = items-reads splits (head_at position.version position.horizon moves) i 0 batch part.items of.items;
 }
 
 -- what is sent of an entry are parts
@@ -117,14 +117,17 @@ module _ (splits : List Point) (before : List Entry) (entry : Entry)
   pub follows : AreEntries (suc (length splits)) (last_version before) (entry ∷ [])
   follows = entries-after (suc (length splits)) 0 before entry entries
 
-  pub may-follow : (last : ℕ) → last ≡ last_version before → MayFollow last (suc (length splits)) entry
-  may-follow last is = record {
+  pub may-follow : (last horizon : ℕ) → last ≡ last_version before → horizon ≤ entry.horizon
+      → MayFollow last horizon (suc (length splits)) entry
+  may-follow last horizon is rises = record {
     later = let above = follows.0 in omega (arith, is, above);
-    linked = follows.1 ∙ sym is;
+    linked = follows.1.0 ∙ sym is;
     moves = All-from_recursion (λ (move : Move). move.to < suc (length splits)) entry.moves follows.2;
     reads = All-from_recursion (λ (t : Transaction). t.read < entry.version) entry.batch
         (all-weaken (λ (t : Transaction). (t.read < entry.version) × NamesWrites t)
         (λ (t : Transaction). t.read < entry.version) (λ (t : Transaction) may. may.0) entry.batch follows.3);
+    rises = rises;
+    below = follows.1.1;
   }
 
   pub later : (seen_of (before ++ entry ∷ [])).places ≡ (add_entry (seen_of before) entry).places
@@ -134,46 +137,41 @@ module _ (splits : List Point) (before : List Entry) (entry : Entry)
   history = subst (IsHistory (suc (length splits))) later
       (places_are_history (suc (length splits)) (before ++ entry ∷ []) entries)
 
-  abbrev pub position : ℕ → Position
-  position index = record { index = index; version = entry.version; prev = entry.prev }
-
   -- one resolver takes its part
   module _ (index i : ℕ) (old : Resolver) (part : Part) (at : IsResolverAt splits before i old)
-      (of : IsPartOf splits (moves_through (seen_of before) entry) (position index) entry.batch i part) where
+      (of : IsPartOf splits (moves_through (seen_of before) entry) (position_in index entry) entry.batch i part) where
     pub may-take : part_fault old part ≡ None
     may-take =
-        let same : part.prev ≡ old.last = of.prev ∙ follows.1 ∙ sym at.last in
+        let same : part.prev ≡ old.last = of.prev ∙ follows.1.0 ∙ sym at.last in
         cond-false _ _ _ (ap not (eq-eqb part.resolver old.index (of.resolver ∙ sym at.index)))
         ∙ cond-false _ _ _ at.works
         ∙ cond-false _ _ _ (le-ltb part.prev old.last (omega (arith, same)))
         ∙ cond-false _ _ _ (le-ltb old.last part.prev (omega (arith, same)))
 
     -- what it says is the rule, and it has then taken the entry
-    pub takes : (new : Resolver) (one : Option Said) → HasSaid old part new one
+    pub takes : last_horizon before ≤ entry.horizon → (new : Resolver) (one : Option Said) → HasSaid old part new one
         → (one ≡ Some (verdicts_on splits i (seen_of before) entry))
         × IsResolverAt splits (before ++ entry ∷ []) i new
-    takes new one has =
-        let above = follows.0 in
+    takes risen new one has =
         let answers = has.verdicts.answers in
         let after = (add_entry (seen_of before) entry).places in
         let judged = entries_are_judged_by_the_rule splits i (seen_of before) entry part.items answers
-        (last_version before - window) (version_at old.versions) history at.state (omega (arith, above)) of.items
-        (subst (λ (v : ℕ). AreVerdicts v (version_at old.versions) part.items answers) of.version has.answer.answers) in
-        let kept : AgreeFrom (entry.version - window) (version_at new.versions)
+        (last_horizon before) (version_at old.versions) history at.state risen of.items
+        (rw (of.version, of.horizon) at has.answer.answers) in
+        let kept : AgreeFrom entry.horizon (version_at new.versions)
         (versions_after entry.version (version_at old.versions) part.items answers) =
-        subst (λ (v : ℕ). AgreeFrom (v - window) (version_at new.versions)
-        (versions_after v (version_at old.versions) part.items answers)) of.version has.taken.versions in (
+        rw (of.version, of.horizon) at has.taken.versions in (
           has.said_them ∙ ap (λ (said : Said). Some said) judged.0,
           record {
             index = has.taken.index ∙ at.index;
             last = has.taken.last ∙ of.version ∙ sym (last-push before entry);
             works = has.taken.works;
             state = subst (λ (places : List Place). IsStateOf splits i places
-                (last_version (before ++ entry ∷ []) - window) (version_at new.versions)) (sym later)
-                (subst (λ (v : ℕ). IsStateOf splits i after (v - window) (version_at new.versions))
-                (sym (last-push before entry))
-                (state_forgets splits i after (last_version before - window) (entry.version - window) _
-                (version_at new.versions) judged.1 (omega (arith, above)) kept));
+                (last_horizon (before ++ entry ∷ [])) (version_at new.versions)) (sym later)
+                (subst (λ (v : ℕ). IsStateOf splits i after v (version_at new.versions))
+                (sym (last_horizon-push before entry))
+                (state_forgets splits i after (last_horizon before) entry.horizon _
+                (version_at new.versions) judged.1 risen kept));
           },
         )
 

@@ -38,6 +38,8 @@ other_sequencers_are_elsewhere = (
     committed = le_refl 0;
     targets = (omega arith, tt);
     unlearnt = λ proxy. ([], none-unlearnt 1 proxy);
+    horizon = refl;
+    window = omega arith;
   },
   (λ at. let wrong : 0 ≡ 1 = at.accepted in omega (arith, wrong)),
   (λ at. let wrong : 1 ≤ 0 = at.committed in omega (arith, wrong)),
@@ -48,6 +50,17 @@ other_sequencers_are_elsewhere = (
       sym (length-append last.0 (record { version = 1; moves = to_one ∷ [] } ∷ []))
       ∙ ap (λ (moves : List Dated). length moves) last.1 in
       omega (arith, none)),
+  (λ at. let wrong : 1 ≡ 0 = at.horizon in omega (arith, wrong)),
+  (λ at. let wrong : 1 ≤ 0 = at.window in omega (arith, wrong)),
+  record {
+    accepted = refl;
+    last = refl;
+    committed = le_refl 0;
+    targets = tt;
+    unlearnt = λ proxy. ([], none-unlearnt 1 proxy);
+    horizon = refl;
+    window = le_refl 1;
+  },
 )
 
 pub other_logs_are_elsewhere : OtherLogsAreElsewhere

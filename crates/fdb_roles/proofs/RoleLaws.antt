@@ -13,7 +13,7 @@ use Rattle.fdb_keys.specs.declared.refusal.Refusal.TheVariants.{Failed, BadConfi
 use Rattle.fdb_txn.specs.declared.entry.Entry.{Entry}
 use Rattle.fdb_txn.specs.declared.entry.Move.{Move}
 use Rattle.fdb_txn.specs.declared.tag_msg.TagMsg.{TagMsg}
-use Rattle.fdb_txn.specs.book.Book.{Seen, seen_of, last_version}
+use Rattle.fdb_txn.specs.book.Book.{Seen, seen_of, last_version, last_horizon}
 use Rattle.fdb_txn.specs.book.History.{AreEntries}
 use Rattle.fdb_txn.specs.book.Transactions.{Transaction}
 use Rattle.fdb_txn.specs.rules.Messages.{message_for, messages_for, messages_after}
@@ -39,17 +39,19 @@ use Rattle.fdb_roles.specs.RoleLaws.{ShardGoesOn, ShardGoesOnByMessages, LogGive
 use Rattle.fdb_roles.specs.AtBook.{AreLastOf, IsSequencerAt, IsLogAt, IsShardAt, IsLogAfter}
 use Rattle.fdb_roles.specs.Entries.{dated_moves, entry_of}
 use Rattle.fdb_roles.proofs.ListLemmas.{last-at}
-use Rattle.fdb_roles.proofs.BookLemmas.{last-push, entries-take}
+use Rattle.fdb_roles.proofs.BookLemmas.{last-push, last_horizon-push, last-risen, entries-take}
+use Rattle.fdb_roles.proofs.BookLemmas.{horizon-within}
 use Rattle.fdb_roles.proofs.LogLemmas.{count-messages, gives-messages, gives-through, shard-may-apply, shard-applied}
 use Rattle.fdb_roles.proofs.TakenLemmas.{log-next}
 use Rattle.fdb_roles.proofs.MoveLemmas.{dated_moves-push, handed-count, handed-own, handed-other}
 use Rattle.fdb_roles.proofs.ResolverLemmas.{follows, may-take, takes}
 
 pub resolver_goes_on : ResolverGoesOn
-resolver_goes_on splits book entry i old part entries at of = (
+resolver_goes_on splits book entry i old part entries rise at of = (
   may-take splits book entry entries (length book) i old part at of,
   λ verdicts new answer taken.
-      let took = takes splits book entry entries (length book) i old part at of new (Some verdicts.answers)
+      let took = takes splits book entry entries (length book) i old part at of
+      (last-risen book entry rise) new (Some verdicts.answers)
       (record { verdicts = verdicts; said_them = refl; answer = answer; taken = taken }) in
       (same-some verdicts.answers _ took.0, took.1),
 )
@@ -120,17 +122,29 @@ sequencer_goes_on book batch old ticket at accepted =
       committed = let low = at.committed in omega (arith, low, at.last, now.above, last);
       targets = tt;
       unlearnt = all-unlearnt book batch old ticket at now.pending;
+      horizon = sym (last_horizon-push book (entry_of ticket batch));
+      window = at.window;
     }
 
 pub entries_go_on_by_tickets : EntriesGoOnByTickets
 entries_go_on_by_tickets book batch old ticket entries at accepted reads =
-    let now = accepted_is_now old ticket accepted in
-    entries_go_on old.resolvers 0 book (entry_of ticket batch) entries (
-      subst (λ (version : ℕ). version < ticket.version) at.last now.above,
-      now.prev ∙ at.last,
-      subst (AllByRecursion (λ (move : Move). move.to < old.resolvers)) (sym now.pending) at.targets,
-      reads,
-      tt,
+    let now = accepted_is_now old ticket accepted in (
+      entries_go_on old.resolvers 0 book (entry_of ticket batch) entries (
+        subst (λ (version : ℕ). version < ticket.version) at.last now.above,
+        (
+          now.prev ∙ at.last,
+          (let window = at.window in
+              let horizon = at.horizon in
+              let last = at.last in
+              let within : last_horizon book ≤ last_version book =
+              horizon-within old.resolvers 0 0 book (le_refl 0) entries in
+              omega (arith, now.horizon, now.above, window, horizon, last, within)),
+        ),
+        subst (AllByRecursion (λ (move : Move). move.to < old.resolvers)) (sym now.pending) at.targets,
+        reads,
+        tt,
+      ),
+      let horizon = at.horizon in omega (arith, horizon, now.horizon),
     )
 
 -- the book before its last entry
@@ -148,7 +162,7 @@ module _ (config : Config) (book : List Entry) (entry : Entry) (l : ℕ) (old : 
   log-may-take : push_fault old message ≡ None
   log-may-take =
       let same : message.prev ≡ old.last =
-      ap (λ (m : LogMsg). m.prev) is ∙ (follows config.resolver_splits book entry entries).1 ∙ sym at.last in
+      ap (λ (m : LogMsg). m.prev) is ∙ (follows config.resolver_splits book entry entries).1.0 ∙ sym at.last in
       cond-false _ _ _ (ap not (eq-eqb message.log old.log (ap (λ (m : LogMsg). m.log) is ∙ sym at.number)))
       ∙ cond-false _ _ _ at.works
       ∙ cond-false _ _ _ (le-ltb message.prev old.last (omega (arith, same)))

@@ -1,12 +1,13 @@
 -- Roles before their first entry, and what leaves them at the entries that they took.
 use Rattle.std.proofs.Common.{◌≡◌, ◌∙◌, sym, refl, ℕ, ◌≤◌, le_refl, arith, Bool, true, false, [], Some, None}
-use Rattle.std.specs.Prelude.{◌||◌, not, nat_lt, if◌then◌else◌}
-use Rattle.std.proofs.lemmas.Bool.{cond-false, ltb-false, or_parts}
+use Rattle.std.specs.Prelude.{◌&&◌, ◌||◌, not, nat_lt, nat_le, if◌then◌else◌}
+use Rattle.std.proofs.lemmas.Bool.{cond-false, leb-true, ltb-false, or_parts}
 use Rattle.fdb_keys.specs.declared.refusal.Refusal.TheVariants.{Failed, BadConfig}
+use Rattle.fdb_txn.specs.Limits.{window}
 use Rattle.fdb_sequencer.proofs.Exports.{pending_exist}
 use Rattle.fdb_log.specs.Logs.{Log, keeps, tag_fault}
 use Rattle.fdb_roles.specs.RoleStarts.{ResolverStarts, SequencerStarts, LogStarts, ShardStarts, LogPops}
-use Rattle.fdb_roles.specs.RoleStarts.{SequencerReports, SequencerMoves, ShardForgets}
+use Rattle.fdb_roles.specs.RoleStarts.{SequencerReports, SequencerMoves, SequencerWindows, ShardForgets}
 use Rattle.fdb_roles.proofs.LogLemmas.{new-log, new-shard, log-pops, shard-forgot}
 use Rattle.fdb_roles.proofs.ResolverLemmas.{new-resolver}
 use Rattle.fdb_roles.proofs.StartLemmas.{none-unlearnt}
@@ -21,6 +22,8 @@ sequencer_starts proxies resolvers = record {
   committed = le_refl 0;
   targets = tt;
   unlearnt = λ proxy. ([], none-unlearnt proxies proxy);
+  horizon = refl;
+  window = omega arith;
 }
 
 pub log_starts : LogStarts
@@ -39,6 +42,8 @@ sequencer_reports book old version at none = record {
       omega (arith, low, at.last, reached);
   targets = at.targets;
   unlearnt = at.unlearnt;
+  horizon = at.horizon;
+  window = at.window;
 }
   where
     may-report : (late : Bool) → nat_lt old.last version ≡ late → (if late then Some BadConfig else None) ≡ None
@@ -53,7 +58,25 @@ sequencer_moves book old move at none = record {
   committed = at.committed;
   targets = pending_exist old move none at.targets;
   unlearnt = at.unlearnt;
+  horizon = at.horizon;
+  window = at.window;
 }
+
+pub sequencer_windows : SequencerWindows
+sequencer_windows book old versions at none = record {
+  accepted = at.accepted;
+  last = at.last;
+  committed = at.committed;
+  targets = at.targets;
+  unlearnt = at.unlearnt;
+  horizon = at.horizon;
+  window = at-least-one (nat_le 1 versions) (nat_le versions window) refl none;
+}
+  where
+    at-least-one : (least most : Bool) → nat_le 1 versions ≡ least
+        → (if least && most then None else Some BadConfig) ≡ None → 1 ≤ versions
+    at-least-one true most is same = leb-true 1 versions is
+    at-least-one false most is same = cc
 
 -- a log that may speak of a version has reached it
 reached : (log : Log) (tag version : ℕ) → log.is_failed ≡ false → tag_fault log tag version ≡ None

@@ -90,7 +90,7 @@ linked-rising book linked = rises-at 0 book (linked-rise 0 book linked)
 pub entries-linked : (resolvers least : ℕ) (book : List Entry) → AreEntries resolvers least book → AreLinked least book
 entries-linked resolvers least [] entries = tt
 entries-linked resolvers least (entry ∷ book) entries =
-    (entries.0, entries.1, entries-linked resolvers entry.version book entries.4)
+    (entries.0, entries.1.0, entries-linked resolvers entry.version book entries.4)
 
 pub entries-rising : (resolvers : ℕ) (book : List Entry) → AreEntries resolvers 0 book → IsRising book
 entries-rising resolvers book entries = linked-rising book (entries-linked resolvers 0 book entries)

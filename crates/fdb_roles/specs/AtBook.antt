@@ -1,48 +1,48 @@
 -- What it means that a role is where a book leaves it.
-use Rattle.std.specs.Prelude.{◌≡◌, ◌-◌, ℕ, false, List, ◌<◌, ◌≤◌, suc, true, ◌++◌, length, take}
+use Rattle.std.specs.Prelude.{◌≡◌, ℕ, false, List, ◌<◌, ◌≤◌, suc, true, ◌++◌, length, take}
 use Rattle.std.specs.List.{AllByRecursion}
 use Rattle.std.specs.FinMap.{get}
 use Rattle.fdb_keys.specs.Points.{Point}
 use Rattle.fdb_keys.specs.Ranges.{in_range}
 use Rattle.fdb_interval.specs.Versions.{version_at}
 use Rattle.fdb_txn.specs.declared.entry.Entry.{Entry}
-use Rattle.fdb_txn.specs.book.Book.{seen_of, last_version}
-use Rattle.fdb_txn.specs.rules.Owners.{window}
+use Rattle.fdb_txn.specs.book.Book.{seen_of, last_version, last_horizon}
 use Rattle.fdb_txn.specs.rules.Resolvers.{IsStateOf}
 use Rattle.fdb_txn.specs.declared.entry.Move.{Move}
 use Rattle.fdb_txn.specs.rules.Messages.{messages_for}
 use Rattle.fdb_txn.specs.rules.SerialMap.{serial_map_at}
 use Rattle.fdb_txn.specs.rules.Splits.{piece}
 use Rattle.fdb_resolver.specs.Resolvers.{Resolver}
-use Rattle.fdb_resolver.specs.Resolvers as resolver
 use Rattle.fdb_sequencer.specs.declared.dated.Dated.{Dated}
 use Rattle.fdb_sequencer.specs.Sequencer.{Sequencer, unlearnt_by}
-use Rattle.fdb_log.specs.Logs as logs
 use Rattle.fdb_log.specs.Logs.{Log, keeps, kept, popped_through}
 use Rattle.fdb_log.specs.Messages.{above}
 use Rattle.fdb_storage.specs.Shards.{Shard, value_at}
 use Rattle.fdb_proxy.specs.declared.config.Config.{Config}
 use Rattle.fdb_roles.specs.Entries.{dated_moves}
 
--- Resolver i took these entries. From the begin of the window on it answers as the last versions of their places.
+-- Resolver i took these entries. From the last one's horizon on it answers as the last versions of their places.
 pub record IsResolverAt (splits : List Point) (before : List Entry) (i : ℕ) (resolver : Resolver) : Type 0 where
   pub index : resolver.index ≡ i
   pub last : resolver.last ≡ last_version before
   pub works : resolver.is_failed ≡ false
-  pub state : IsStateOf splits i (seen_of before).places (last_version before - window) (version_at resolver.versions)
+  pub state : IsStateOf splits i (seen_of before).places (last_horizon before) (version_at resolver.versions)
 
 -- some moves are the last ones of others
 abbrev pub AreLastOf : List Dated → List Dated → Type 0
 AreLastOf last all = (first : List Dated) × (first ++ last ≡ all)
 
 -- The sequencer accepted the tickets of these entries, and no version above theirs was reported. What is pending goes
--- to its resolvers, and each proxy has had the entries' moves but for some last ones.
+-- to its resolvers, and each proxy has had the entries' moves but for some last ones. Its last horizon is that of the
+-- last entry, and its window holds a version.
 pub record IsSequencerAt (book : List Entry) (sequencer : Sequencer) : Type 0 where
   pub accepted : sequencer.accepted ≡ length book
   pub last : sequencer.last ≡ last_version book
   pub committed : sequencer.committed ≤ last_version book
   pub targets : AllByRecursion (λ (move : Move). move.to < sequencer.resolvers) sequencer.pending
   pub unlearnt : (proxy : ℕ) → AreLastOf (unlearnt_by sequencer proxy) (dated_moves book)
+  pub horizon : sequencer.horizon ≡ last_horizon book
+  pub window : 1 ≤ sequencer.window
 
 module _ (config : Config) (book : List Entry) where
   -- log i took this many entries, and keeps of each of its tags the messages of these above what was popped

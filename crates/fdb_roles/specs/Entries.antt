@@ -23,4 +23,10 @@ moves_in book = sum_by (λ (entry : Entry). length entry.moves) book
 -- the entry of a ticket
 abbrev pub entry_of : Ticket → List Transaction → Entry
 entry_of ticket batch =
-    record { version = ticket.version; prev = ticket.prev; moves = ticket.pending; batch = batch }
+    record {
+      version = ticket.version;
+      prev = ticket.prev;
+      horizon = ticket.horizon;
+      moves = ticket.pending;
+      batch = batch;
+    }

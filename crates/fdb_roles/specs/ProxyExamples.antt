@@ -34,14 +34,15 @@ abbrev pub decided_at : ℕ → List Outcome → CommitProxy
 decided_at last outcomes = record (idle_at last) {
   batch = both;
   stage = stage.Logging (record {
-    position = record { index = 0; version = 100; prev = 0 };
+    position = record { index = 0; version = 100; prev = 0; horizon = 0 };
     answers = answers_by both outcomes;
     acknowledged = false ∷ [];
   });
 }
 
 -- A proxy without a batch has no entry where it had no ticket, and has the entry where its last ticket was the entry's;
--- not the other way round, not where it failed, and not where it learnt a move that no entry has. One that decided the
+-- not the other way round, not where it failed, not where it learnt a move that no entry has, and not where it forgot
+-- owners that no entry's horizon let it forget. One that decided the
 -- entry's batch by the rule has the entry, but not one that committed both, or that has one more entry.
 abbrev pub OtherProxiesAreElsewhere : Type 0
 OtherProxiesAreElsewhere =
@@ -51,6 +52,7 @@ OtherProxiesAreElsewhere =
     × (IsCommitProxyAt plain two_in_one_entry (idle_at 0) → ⊥)
     × (IsCommitProxyAt plain [] (record (idle_at 0) { is_failed = true }) → ⊥)
     × (IsCommitProxyAt plain [] (record (idle_at 0) { owners = moved }) → ⊥)
+    × (IsCommitProxyAt plain [] (record (idle_at 0) { owners = record (one_owner 0) { floor = 1 } }) → ⊥)
     × IsCommitProxyAt plain two_in_one_entry (decided_at 100 (Commit 100 0 ∷ Conflict ∷ []))
     × (IsCommitProxyAt plain two_in_one_entry (decided_at 100 (Commit 100 0 ∷ Commit 100 1 ∷ [])) → ⊥)
     × (IsCommitProxyAt plain set_and_cleared (decided_at 200 (Commit 100 0 ∷ Conflict ∷ [])) → ⊥)

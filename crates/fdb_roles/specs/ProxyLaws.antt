@@ -5,7 +5,7 @@ use Rattle.fdb_keys.specs.declared.refusal.Refusal.TheVariants.{WrongState}
 use Rattle.fdb_txn.specs.declared.entry.Entry.{Entry}
 use Rattle.fdb_txn.specs.declared.txn_id.TxnId.{TxnId}
 use Rattle.fdb_txn.specs.book.Book.{Place, seen_of, seen_before}
-use Rattle.fdb_txn.specs.book.History.{AreEntries}
+use Rattle.fdb_txn.specs.book.History.{AreEntries, HorizonsRise}
 use Rattle.fdb_txn.specs.book.Places.{place_at}
 use Rattle.fdb_txn.specs.book.Transactions.{Transaction}
 use Rattle.fdb_resolver.specs.declared.verdict.Verdicts.{Verdicts}
@@ -23,7 +23,7 @@ use Rattle.fdb_proxy.specs.Logging.{answers_by}
 use Rattle.fdb_proxy.specs.Parting.{AreParts}
 use Rattle.fdb_proxy.specs.Verdicts.{moves_through, outcomes_on}
 use Rattle.fdb_roles.specs.Outcomes.{IsByRule}
-use Rattle.fdb_roles.specs.ProxyStages.{IsCommitProxyAt, IsSaid}
+use Rattle.fdb_roles.specs.ProxyStages.{IsCommitProxyAt, IsSaid, position_in}
 use Rattle.fdb_roles.specs.Entries.{dated_moves, entry_of}
 
 -- entry i is the last one
@@ -54,14 +54,14 @@ ProxiesLearnTheirTickets =
     let before = front ++ between in
     let entry = entry_of ticket old.batch in
     IsCommitProxyAt config front old
-    → AreEntries (suc (length config.resolver_splits)) 0 (before ++ entry ∷ [])
+    → AreEntries (suc (length config.resolver_splits)) 0 (before ++ entry ∷ []) → HorizonsRise 0 (before ++ entry ∷ [])
     → ticket.index ≡ length before → ticket.moves ≡ dated_moves (between ++ entry ∷ [])
     → IsTicketFor old ticket × (learn_fault old ticket ≡ (if is_sealed old.stage then None else Some WrongState))
     × ((new : CommitProxy) → HasLearntTicket old ticket new
     → IsCommitProxyAt config (before ++ entry ∷ []) new
     × (new.stage ≡ stage.Resolving (without_verdicts (position_of ticket) (parts_in new.stage)))
     × AreParts config.resolver_splits (moves_through (seen_of before) entry)
-    (record { index = length before; version = entry.version; prev = entry.prev }) entry.batch (parts_in new.stage))
+    (position_in (length before) entry) entry.batch (parts_in new.stage))
 
 -- a batch in flight that has an entry is that of the last one
 abbrev pub BatchesAreOfTheLastEntry : Type 0

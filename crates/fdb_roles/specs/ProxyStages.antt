@@ -1,8 +1,8 @@
 -- A commit proxy that has the entries of a book through that of its last ticket, and its batch, at each stage.
-use Rattle.std.specs.Prelude.{◌≡◌, ◌<◌, ⊤, ℕ, suc, false, List, [], length, Some, slice_get}
+use Rattle.std.specs.Prelude.{◌≡◌, ◌<◌, ◌≤◌, ⊤, ℕ, suc, false, List, [], length, Some, slice_get}
 use Rattle.fdb_keys.specs.Points.{Point}
 use Rattle.fdb_txn.specs.declared.entry.Entry.{Entry}
-use Rattle.fdb_txn.specs.book.Book.{seen_of, seen_before, last_version}
+use Rattle.fdb_txn.specs.book.Book.{seen_of, seen_before, last_version, last_horizon}
 use Rattle.fdb_txn.specs.book.Transactions.{Transaction}
 use Rattle.fdb_owners.specs.OwnersLaws.{AgreesWith}
 use Rattle.fdb_resolver.specs.declared.part.Part.{Part}
@@ -27,12 +27,17 @@ pub record IsBatchOf (book : List Entry) (i : ℕ) (batch : List Transaction)
   pub version : position.version ≡ entry.version
   pub prev : position.prev ≡ entry.prev
   pub places : batch ≡ entry.batch
+  pub horizon : position.horizon ≡ entry.horizon
+
+-- the position of entry i
+abbrev pub position_in : ℕ → Entry → Position
+position_in i entry =
+    record { index = i; version = entry.version; prev = entry.prev; horizon = entry.horizon }
 
 -- the parts of entry i, one for each resolver
 abbrev pub ArePartsOf : List Point → List Entry → ℕ → Entry → List Part → Type 0
 ArePartsOf splits book i entry parts =
-    AreParts splits (moves_through (seen_before book i) entry)
-    (record { index = i; version = entry.version; prev = entry.prev }) entry.batch parts
+    AreParts splits (moves_through (seen_before book i) entry) (position_in i entry) entry.batch parts
 
 -- the batch waits for verdicts: the rule's came, and no others
 pub record IsResolving (splits : List Point) (book : List Entry) (i : ℕ) (entry : Entry) (batch : Unheard) : Type 0
@@ -61,7 +66,7 @@ module _ (config : Config) (front : List Entry) where
       × IsLogging config front i entry decided
 
   -- The commit proxy works, knows the configuration, and learnt the moves of these entries, of which the last one is
-  -- that of its last ticket.
+  -- that of its last ticket. It forgot no owner from that one's horizon on.
   pub record IsCommitProxyAt (proxy : CommitProxy) : Type 0 where
     pub works : proxy.is_failed ≡ false
     pub logs : proxy.logs ≡ config.logs
@@ -70,6 +75,7 @@ module _ (config : Config) (front : List Entry) where
     pub owners : AgreesWith proxy.owners (seen_of front).moves
     pub last : proxy.last ≡ last_version front
     pub stage : IsStageAt proxy.batch proxy.stage
+    pub floor : proxy.owners.floor ≤ last_horizon front
 
 -- what a resolver said of an entry is the rule's
 pub record IsSaid (splits : List Point) (book : List Entry) (verdicts : Verdicts) (entry : Entry) : Type 0 where

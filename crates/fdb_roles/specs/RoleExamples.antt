@@ -14,8 +14,9 @@ abbrev pub to_one : Move
 to_one = record { range = from_to (codes "a") (codes "c"); to = 1 }
 
 -- A fresh sequencer of two resolvers is at no entry, also where a move to one of them is pending. It isn't at an
--- entry, nor is one at no entry to which version 1 was reported, where what is pending goes to a third resolver, or
--- which has yet to tell its proxy of a move that no entry has.
+-- entry, nor is one at no entry to which version 1 was reported, where what is pending goes to a third resolver,
+-- which has yet to tell its proxy of a move that no entry has, of another horizon than 0, or of a window without
+-- versions. It may have any other window.
 abbrev pub OtherSequencersAreElsewhere : Type 0
 OtherSequencersAreElsewhere =
     IsSequencerAt [] (pending (to_one ∷ []))
@@ -24,6 +25,9 @@ OtherSequencersAreElsewhere =
     × (IsSequencerAt [] (pending (record to_one { to = 2 } ∷ [])) → ⊥)
     × (IsSequencerAt []
     (record (pending []) { unlearnt = (record { version = 1; moves = to_one ∷ [] } ∷ []) ∷ [] }) → ⊥)
+    × (IsSequencerAt [] (record (pending []) { horizon = 1 }) → ⊥)
+    × (IsSequencerAt [] (record (pending []) { window = 0 }) → ⊥)
+    × IsSequencerAt [] (record (pending []) { window = 1 })
   where
     pending : List Move → Sequencer
     pending moves = record (fresh 1 2 0) { pending = moves }

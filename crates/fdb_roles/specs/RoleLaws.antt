@@ -1,11 +1,11 @@
 -- A role whose state is that of a book, and that takes its message of one more entry, has the state of the book with
 -- that entry.
-use Rattle.std.specs.Prelude.{◌≡◌, ◌+◌, ◌<◌, ℕ, suc, List, [], ◌∷◌, ◌++◌, length, take, None}
+use Rattle.std.specs.Prelude.{◌≡◌, ◌+◌, ◌<◌, ◌≤◌, ℕ, suc, List, [], ◌∷◌, ◌++◌, length, take, None}
 use Rattle.std.specs.List.{AllByRecursion}
 use Rattle.fdb_keys.specs.Points.{Point}
 use Rattle.fdb_txn.specs.declared.entry.Entry.{Entry}
-use Rattle.fdb_txn.specs.book.Book.{seen_of, last_version}
-use Rattle.fdb_txn.specs.book.History.{AreEntries}
+use Rattle.fdb_txn.specs.book.Book.{seen_of, last_version, last_horizon}
+use Rattle.fdb_txn.specs.book.History.{AreEntries, HorizonsRise}
 use Rattle.fdb_txn.specs.book.Transactions.{Transaction, NamesWrites}
 use Rattle.fdb_txn.specs.rules.Messages.{message_for, messages_after}
 use Rattle.fdb_txn.specs.rules.Splits.{piece}
@@ -28,14 +28,15 @@ use Rattle.fdb_proxy.specs.Parting.{IsPartOf}
 use Rattle.fdb_proxy.specs.Verdicts.{moves_through, verdicts_on}
 use Rattle.fdb_roles.specs.Entries.{entry_of}
 use Rattle.fdb_roles.specs.AtBook.{IsResolverAt, IsSequencerAt, IsLogAt, IsShardAt}
+use Rattle.fdb_roles.specs.ProxyStages.{position_in}
 
 -- A resolver isn't refused its part of the next entry, says the rule's verdicts, and has then taken the entry.
 abbrev pub ResolverGoesOn : Type 0
 ResolverGoesOn =
     (splits : List Point) (book : List Entry) (entry : Entry) (i : ℕ) (old : Resolver) (part : Part)
-    → AreEntries (suc (length splits)) 0 (book ++ entry ∷ []) → IsResolverAt splits book i old
-    → IsPartOf splits (moves_through (seen_of book) entry)
-    (record { index = length book; version = entry.version; prev = entry.prev }) entry.batch i part
+    → AreEntries (suc (length splits)) 0 (book ++ entry ∷ []) → HorizonsRise 0 (book ++ entry ∷ [])
+    → IsResolverAt splits book i old
+    → IsPartOf splits (moves_through (seen_of book) entry) (position_in (length book) entry) entry.batch i part
     → (part_fault old part ≡ None)
     × ((verdicts : Verdicts) (new : Resolver) → IsAnswer old part verdicts → resolver.HasTaken old part verdicts new
     → (verdicts.answers ≡ verdicts_on splits i (seen_of book) entry) × IsResolverAt splits (book ++ entry ∷ []) i new)
@@ -53,13 +54,13 @@ SequencerGoesOn =
     → accept_fault old ticket ≡ None → IsSequencerAt (book ++ entry_of ticket batch ∷ []) (accepting old ticket)
 
 -- And the entry goes on from the book's entries, where each of its transactions read below the ticket's version and all
--- that its mutations name is in its write set.
+-- that its mutations name is in its write set. Its horizon is no less than that of the last one.
 abbrev pub EntriesGoOnByTickets : Type 0
 EntriesGoOnByTickets =
     (book : List Entry) (batch : List Transaction) (old : Sequencer) (ticket : Ticket)
     → AreEntries old.resolvers 0 book → IsSequencerAt book old → accept_fault old ticket ≡ None
     → AllByRecursion (λ (t : Transaction). (t.read < ticket.version) × NamesWrites t) batch
-    → AreEntries old.resolvers 0 (book ++ entry_of ticket batch ∷ [])
+    → AreEntries old.resolvers 0 (book ++ entry_of ticket batch ∷ []) × (last_horizon book ≤ ticket.horizon)
 
 -- A log isn't refused its message of the next entry, and has taken the entry with it.
 abbrev pub LogGoesOn : Type 0

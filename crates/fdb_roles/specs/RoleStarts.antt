@@ -6,6 +6,7 @@ use Rattle.fdb_txn.specs.declared.entry.Move.{Move}
 use Rattle.fdb_txn.specs.rules.Splits.{piece}
 use Rattle.fdb_resolver.specs.Resolvers.{Resolver, IsNew}
 use Rattle.fdb_sequencer.specs.Sequencer.{Sequencer, fresh, move_fault, moving, report_fault, reporting}
+use Rattle.fdb_sequencer.specs.Sequencer.{set_window_fault, windowing}
 use Rattle.fdb_log.specs.Logs.{Log, IsNewLog, tag_fault, HasPopped}
 use Rattle.fdb_storage.specs.Shards.{Shard, IsNewShard, forget_fault, HasForgotten}
 use Rattle.fdb_proxy.specs.declared.config.Config.{Config}
@@ -27,7 +28,8 @@ abbrev pub ShardStarts : Type 0
 ShardStarts =
     (config : Config) (s : ℕ) (new : Shard) → IsNewShard s (piece config.shard_splits s) new → IsShardAt config [] s new
 
--- A sequencer to which a version was reported, or with which a move was made, accepted what it accepted.
+-- A sequencer to which a version was reported, with which a move was made, or of which the window was set, accepted
+-- what it accepted.
 abbrev pub SequencerReports : Type 0
 SequencerReports =
     (book : List Entry) (old : Sequencer) (version : ℕ) → IsSequencerAt book old → report_fault old version ≡ None
@@ -37,6 +39,11 @@ abbrev pub SequencerMoves : Type 0
 SequencerMoves =
     (book : List Entry) (old : Sequencer) (move : Move) → IsSequencerAt book old → move_fault old move ≡ None
     → IsSequencerAt book (moving old move)
+
+abbrev pub SequencerWindows : Type 0
+SequencerWindows =
+    (book : List Entry) (old : Sequencer) (window : ℕ) → IsSequencerAt book old → set_window_fault window ≡ None
+    → IsSequencerAt book (windowing old window)
 
 -- A log that popped a tag took what it took.
 abbrev pub LogPops : Type 0

@@ -1,8 +1,9 @@
 -- Small books, the transactions in them and roles at them, of which the examples speak.
-use Rattle.std.specs.Prelude.{[], ℕ, false, List, ◌∷◌, Option, codes, None, ◌++◌}
+use Rattle.std.specs.Prelude.{[], ℕ, ◌-◌, false, List, ◌∷◌, Option, codes, None, ◌++◌}
 use Rattle.fdb_keys.specs.Points.{Point}
 use Rattle.fdb_keys.specs.Ranges.{Range}
 use Rattle.fdb_mutations.specs.declared.mutation.Mutation.TheVariants.{Set, Clear}
+use Rattle.fdb_txn.specs.Limits.{window}
 use Rattle.fdb_txn.specs.declared.entry.Entry.{Entry}
 use Rattle.fdb_log.specs.Logs.{Log}
 use Rattle.fdb_proxy.specs.declared.config.Config.{Config}
@@ -33,20 +34,27 @@ abbrev pub two_in_one_entry : List Entry
 two_in_one_entry = record {
   version = 100;
   prev = 0;
+  horizon = 0;
   moves = [];
   batch = commit_request_of (reads_and_sets 0 None) ∷ commit_request_of (reads_and_sets 1 None) ∷ [];
 } ∷ []
 
--- session 0's transaction alone in an entry at the version
+-- session 0's transaction alone in an entry at the version, with the horizon that this has by the first window
 abbrev pub alone_at : ℕ → List Entry
-alone_at version = record
-    { version = version; prev = 0; moves = []; batch = commit_request_of (reads_and_sets 0 None) ∷ [] } ∷ []
+alone_at version = record {
+  version = version;
+  prev = 0;
+  horizon = version - window;
+  moves = [];
+  batch = commit_request_of (reads_and_sets 0 None) ∷ [];
+} ∷ []
 
 -- the key a is set at version 100, and cleared at 200
 abbrev pub set_and_cleared : List Entry
 set_and_cleared = two_in_one_entry ++ record {
   version = 200;
   prev = 100;
+  horizon = 0;
   moves = [];
   batch = commit_request_of (record does_nothing { ops = (op.Write (Clear (codes "a")), reply.Done) ∷ [] }) ∷ [];
 } ∷ []

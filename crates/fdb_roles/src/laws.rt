@@ -14,7 +14,7 @@ ghost use Rattle.fdb_roles.specs.RoleLaws.{ResolverGoesOn, OwnersGoOn, Sequencer
 ghost use Rattle.fdb_roles.specs.RoleLaws.{EntriesGoOnByTickets, ShardGoesOnByMessages, LogGivesMessages};
 ghost use Rattle.fdb_roles.specs.RoleLaws.{ShardGoesOnByItsLog};
 ghost use Rattle.fdb_roles.specs.RoleStarts.{ResolverStarts, SequencerStarts, LogStarts, ShardStarts, LogPops};
-ghost use Rattle.fdb_roles.specs.RoleStarts.{SequencerReports, SequencerMoves, ShardForgets};
+ghost use Rattle.fdb_roles.specs.RoleStarts.{SequencerReports, SequencerMoves, SequencerWindows, ShardForgets};
 
 /// The peeks of a tag that wasn't popped tell the run: where they go on from version 0, the messages that they hold
 /// leave, at each point of the range of the tag's shard and each version that they cover, what stands there on the map
@@ -40,9 +40,10 @@ pub fn places_are_committed_where_the_asked_say_yes()
 /// leaves it. A resolver says of its part what the rule says of the entry's places. Owners learn the entry's moves. The
 /// sequencer accepts the entry's ticket: what a commit proxy hasn't had yet are still the last of the moves that took
 /// effect. The entry goes on from the book's entries, where each transaction of its batch read below the ticket's
-/// version and has in its write set all that its mutations name. A log keeps the entry's message for each of its tags
-/// above what was popped, which is below the entry's version. A shard applies the entry's message for its tag, and
-/// answers from the run with the entry. None of the resolver, the log and the shard is refused it.
+/// version and has in its write set all that its mutations name, and its horizon is no less than the last one's. A log
+/// keeps the entry's message for each of its tags above what was popped, which is below the entry's version. A shard
+/// applies the entry's message for its tag, and answers from the run with the entry. None of the resolver, the log and
+/// the shard is refused it.
 pub fn roles_go_on_with_one_more_entry()
     ensures resolver { ResolverGoesOn }
     ensures owners { OwnersGoOn }
@@ -79,11 +80,12 @@ pub fn new_roles_are_at_no_entry()
 {}
 
 /// What a role does without an entry leaves it where the book left it: a version that was issued is reported to the
-/// sequencer, or a move is made with it, a log pops a tag through a version that it has reached, and a shard raises its
-/// floor to one.
+/// sequencer, a move is made with it, or its window is set, a log pops a tag through a version that it has reached, and
+/// a shard raises its floor to one.
 pub fn roles_stay_where_no_entry_is_taken()
     ensures reports { SequencerReports }
     ensures moves { SequencerMoves }
+    ensures windows { SequencerWindows }
     ensures log { LogPops }
     ensures shard { ShardForgets }
 {}

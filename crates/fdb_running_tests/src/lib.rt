@@ -28,4 +28,6 @@ mod sizes;
 #[cfg(test)]
 mod transfers;
 #[cfg(test)]
+mod window_changes;
+#[cfg(test)]
 mod windows;

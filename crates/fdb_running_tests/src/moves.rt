@@ -131,8 +131,8 @@ fn move_more<B: Named, R: Host>(rt: &R, alloc: Global, database: &Database<B>) -
     ]
 }
 
-// Whether the session writes one of these keys, and has its receipt within 20 seconds. It takes far less, where what goes
-// by the square of the moves takes minutes.
+// Whether the session writes one of these keys, and has its receipt within 20 seconds. It takes far less, where what
+// goes by the square of the moves takes minutes.
 fn is_put_in_time<B: Named, R: Host>(rt: &R, alloc: Global, session: &mut Session<B>) -> bool {
     let Ok(begin) = Instant::now(rt) else {
         return false;

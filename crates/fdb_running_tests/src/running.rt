@@ -1,11 +1,12 @@
 // What the tests of databases that run in threads share.
-ghost use Rattle.std.specs.Prelude.{◌≡◌};
+ghost use Rattle.std.specs.Prelude.{◌≡◌, suc, length};
+ghost use Rattle.fdb_txn.specs.book.History.{IsBook};
 
 use fdb_check::{CheckFault, serial_check};
 use fdb_keys::{Key, KeyRange, Refusal, Refused};
 use fdb_making::{are_pairs, both, made_of};
 use fdb_mutations::Mutation;
-use fdb_runtime::{ClusterName, Config, Database, Receipt, Record, Session, Spot};
+use fdb_runtime::{ClusterName, Config, Database, Entry, Placed, Receipt, Record, Session, Spot};
 use std::alloc::Global;
 use std::marker::Brand;
 use std::process::Abort;
@@ -187,6 +188,23 @@ pub(crate) fn add_write<B: ClusterName>(
     )
 }
 
+/// How many transactions there are, if all are serialized in the book of the entries where they say.
+pub(crate) fn serial_in(
+    alloc: Global,
+    config: &Config,
+    entries: &[Entry],
+    placed: &[Placed],
+) -> Result<Option<u64>, Refusal>
+    requires { IsBook (suc (length config.now.resolver_splits)) entries.now }
+{
+    config.check()?;
+    match serial_check(alloc, config, entries, placed) {
+        Ok(count) => Ok(Some(count)),
+        Err(CheckFault::NoMemory) => Err(Refusal::NoMemory),
+        Err(_fault) => Ok(None),
+    }
+}
+
 /// Whether the receipt's transaction is serialized where it says on the receipt's front.
 pub(crate) fn is_serial<B: ClusterName>(
     alloc: Global,
@@ -195,12 +213,7 @@ pub(crate) fn is_serial<B: ClusterName>(
 ) -> Result<bool, Refusal>
     requires { config.now ≡ B.config }
 {
-    config.check()?;
     let entries = receipt.front().entries()?;
     let placed = [receipt.into_placed()];
-    match serial_check(alloc, config, entries.as_slice(), &placed) {
-        Ok(count) => Ok(count == 1),
-        Err(CheckFault::NoMemory) => Err(Refusal::NoMemory),
-        Err(_fault) => Ok(false),
-    }
+    Ok(serial_in(alloc, config, entries.as_slice(), &placed)? == Some(1))
 }

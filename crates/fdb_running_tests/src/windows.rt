@@ -27,7 +27,7 @@ const ALL: Asked = (b"a", b"zz", 0, false, &[(b'a', 1)]);
 // Commits the byte at the key a, and reads at that version in both shards, which have come to it then. What they have
 // forgotten lies below the window of the last entry. Before they took it they forgot what lay below the window of the
 // last entry but two, which was committed before the last but one was there to be taken.
-fn pass_one<B: ClusterName, R: Wait>(
+pub(crate) fn pass_one<B: ClusterName, R: Wait>(
     rt: &R,
     alloc: Global,
     session: &mut Session<B>,

@@ -4,6 +4,7 @@ ghost use Rattle.fdb_keys.specs.declared.refusal.Refusal.TheVariants.{Failed, No
 ghost use Rattle.fdb_proxy.specs.Configs.{config_fault};
 ghost use Rattle.fdb_runtime.specs.Databases.{start_fault, session_fault, new_session};
 ghost use Rattle.fdb_runtime.specs.Databases.{AnswersMove, is_bad_move};
+ghost use Rattle.fdb_sequencer.specs.Sequencer.{set_window_fault};
 
 use crate::gate::Gate;
 use crate::session::Session;
@@ -119,6 +120,19 @@ impl<B: ClusterName + Send + Sync + 'static> Database<B> {
     {
         let range = range.clone()?;
         self.shared.move_to(rt, Move { range, to })
+    }
+
+    /// Sets how many versions the window has, which are 5,000,000 at first. From the next entry on, a transaction that
+    /// reads is too old where its read version lies more than so many below the version of its entry, or where it would
+    /// have been too old in an entry before: what has become too old stays so where the window grows. It waits for the
+    /// sequencer alone, and changes nothing else that a session is told.
+    ///
+    /// Refused as `BadConfig` unless the window has 1 to 5,000,000 versions; then nothing changes. It takes no memory,
+    /// and O(1) time.
+    pub fn set_window<R: Wait>(&self, rt: &R, window: u64) -> Result<(), Refusal>
+        ensures { AnswersExactly result (set_window_fault window) (λ _. ⊤) }
+    {
+        self.shared.set_window(rt, window)
     }
 
     /// Closes the database, and gives what it holds. What waits is refused as `Closed`, batches in flight end where no

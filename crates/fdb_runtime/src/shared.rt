@@ -3,6 +3,7 @@ ghost use Rattle.std.specs.Prelude.{◌≡◌, ⊤, suc, length, None, IfOk};
 ghost use Rattle.fdb_keys.specs.Answers.{Answers, AnswersExactly};
 ghost use Rattle.fdb_proxy.specs.Configs.{config_fault};
 ghost use Rattle.fdb_runtime.specs.Databases.{AnswersMove, is_bad_move};
+ghost use Rattle.fdb_sequencer.specs.Sequencer.{set_window_fault};
 
 use crate::threads::request::{BeginRequest, CommitRequest};
 use fdb_book::Book;
@@ -137,6 +138,13 @@ impl<B: ClusterName> Shared<B> {
         ensures { AnswersMove (is_bad_move B.config one_move) result }
     {
         self.sequencer.lock(rt).move_to(one_move)
+    }
+
+    /// Hands a window to the sequencer, as `SequencerAt::set_window` takes and refuses it. It takes no memory.
+    pub(crate) fn set_window<R: Wait>(&self, rt: &R, window: u64) -> Result<(), Refusal>
+        ensures { AnswersExactly result (set_window_fault window) (λ _. ⊤) }
+    {
+        self.sequencer.lock(rt).set_window(window)
     }
 
     /// The greatest version that was reported. It takes no memory.

@@ -36,7 +36,7 @@ use Rattle.fdb_proxy.specs.Parting.{IsPartOf}
 use Rattle.fdb_proxy.specs.Verdicts.{moves_through, verdicts_on, outcomes_on}
 use Rattle.fdb_roles.specs.Outcomes.{IsByRule}
 use Rattle.fdb_roles.specs.ProxyLaws.{IsLastEntry}
-use Rattle.fdb_roles.specs.ProxyStages.{IsCommitProxyAt, IsStageAt, IsSaid}
+use Rattle.fdb_roles.specs.ProxyStages.{IsCommitProxyAt, IsStageAt, IsSaid, position_in}
 use Rattle.fdb_roles.proofs.Exports.{place-there, answers-fault, given-fault, requests_come_and_go}
 use Rattle.fdb_roles.proofs.Exports.{new_proxies_have_no_entry, proxies_hear_logs, proxies_hear_verdicts}
 use Rattle.fdb_roles.proofs.Exports.{proxies_decide_by_the_rule, messages_are_of_the_entry, proxies_answer_by_the_rule}
@@ -136,18 +136,18 @@ module _ (front : List Entry) (i : ℕ) (entry : Entry) (last : IsLastEntry fron
 -- a proxy at its front, with the batch of the last entry
 module _ (config : Config) (front : List Entry) (i : ℕ) (entry : Entry) (last : IsLastEntry front i entry) where
   sent-part : (k : ℕ) (part : Part)
-      → IsPartOf config.resolver_splits (moves_through (seen_before front i) entry)
-      (record { index = i; version = entry.version; prev = entry.prev }) entry.batch k part
+      → IsPartOf config.resolver_splits (moves_through (seen_before front i) entry) (position_in i entry) entry.batch k
+      part
       → IsLastPart config.resolver_splits (record { front = front; part = part })
   sent-part k part its = record {
     before = take i front;
     entry = entry;
     front_is = front-is front i entry last;
     part_is = subst (λ (n : ℕ). IsPartOf config.resolver_splits (moves_through (seen_before front i) entry)
-        (record { index = n; version = entry.version; prev = entry.prev }) entry.batch part.resolver part)
+        (position_in n entry) entry.batch part.resolver part)
         (sym (before-count front i entry last))
         (subst (λ (r : ℕ). IsPartOf config.resolver_splits (moves_through (seen_before front i) entry)
-        (record { index = i; version = entry.version; prev = entry.prev }) entry.batch r part) (sym its.resolver) its);
+        (position_in i entry) entry.batch r part) (sym its.resolver) its);
   }
 
   sent-message : (k : ℕ) (message : LogMsg)

@@ -1,7 +1,7 @@
 -- A sequencer that appends to the book itself.
 use Rattle.std.proofs.Common.{◌≡◌, ◌∙◌, ◌<◌, refl, sym, ap, subst, ℕ, suc, List, [], ◌∷◌, ◌++◌, Option, Some, None}
 use Rattle.std.proofs.Common.{Bool, true, false, inl, inr, Result, Ok, Err, IfOk, OnErr, ⊎_elim}
-use Rattle.std.specs.Prelude.{◌&&◌, ◌==◌, nat_lt, length, if◌then◌else◌}
+use Rattle.std.specs.Prelude.{◌&&◌, ◌==◌, nat_lt, nat_le, length, if◌then◌else◌}
 use Rattle.std.specs.List.{AllByRecursion, list_all}
 use Rattle.std.proofs.lemmas.Bool.{and_parts, eqb-true, ltb-true}
 use Rattle.std.proofs.lemmas.List.{append_assoc}
@@ -11,23 +11,24 @@ use Rattle.fdb_keys.specs.declared.refusal.Refusal.TheVariants.{Chain}
 use Rattle.fdb_keys.specs.declared.refusal.Refused.{Refused}
 use Rattle.fdb_txn.specs.declared.entry.Entry.{Entry}
 use Rattle.fdb_txn.specs.declared.entry.Move.{Move}
-use Rattle.fdb_txn.specs.book.Book.{last_version}
+use Rattle.fdb_txn.specs.book.Book.{last_version, last_horizon}
 use Rattle.fdb_txn.specs.book.History.{AreEntries, IsSealed}
 use Rattle.fdb_txn.specs.book.Transactions.{Transaction, NamesWrites}
 use Rattle.fdb_txn.proofs.Exports.{entries_go_on}
-use Rattle.fdb_book.specs.Appending.{goes_on, ids_fault, append_fault, Appends, Found}
+use Rattle.fdb_book.specs.Appending.{goes_on, has_next_horizon, ids_fault, append_fault, Appends, Found}
 use Rattle.fdb_book.specs.Ids.{repeated_place}
 use Rattle.fdb_sequencer.specs.declared.ticket.Ticket.{Ticket}
 use Rattle.fdb_sequencer.specs.declared.dated.Dated.{Dated}
 use Rattle.fdb_sequencer.specs.Moves.{dated}
 use Rattle.fdb_sequencer.specs.Sequencer.{Sequencer, planned, plan_fault, accept_fault, accepting, unlearnt_by}
 use Rattle.fdb_sequencer.specs.Sequencer.{fresh, next_version, report_fault, reporting, move_fault, moving}
+use Rattle.fdb_sequencer.specs.Sequencer.{set_window_fault, windowing}
 use Rattle.fdb_sequencer.proofs.Exports.{planned_are_accepted}
 use Rattle.fdb_proxy.specs.declared.config.Config.{Config}
 use Rattle.fdb_roles.specs.AtBook.{AreLastOf, IsSequencerAt}
 use Rattle.fdb_roles.specs.Entries.{dated_moves, entry_of}
 use Rattle.fdb_roles.proofs.Exports.{answers-fault, given-fault, sequencer_goes_on, sequencer_starts, sequencer_reports}
-use Rattle.fdb_roles.proofs.Exports.{sequencer_moves, last-push, dated_moves-push}
+use Rattle.fdb_roles.proofs.Exports.{sequencer_moves, sequencer_windows, last-push, dated_moves-push}
 use Rattle.fdb_sections.specs.Issuing.{IsAppendRefused}
 
 abbrev pub ReadBelow : ℕ → List Transaction → Type 0
@@ -35,12 +36,12 @@ ReadBelow version batch = AllByRecursion (λ (t : Transaction). t.read < version
 
 -- an entry that may be appended goes on from the book
 pub may-append : (capacity : ℕ) (book : List Entry) (entry : Entry) → append_fault capacity book entry ≡ None
-    → goes_on (last_version book) entry ≡ true
-may-append capacity book entry none = by_test (goes_on (last_version book) entry) refl none
+    → goes_on (last_version book) (last_horizon book) entry ≡ true
+may-append capacity book entry none = by_test (goes_on (last_version book) (last_horizon book) entry) refl none
   where
-    by_test : (test : Bool) → goes_on (last_version book) entry ≡ test
+    by_test : (test : Bool) → goes_on (last_version book) (last_horizon book) entry ≡ test
         → (if test then ids_fault (repeated_place book entry.batch) (length book == capacity) else Some Chain) ≡ None
-        → goes_on (last_version book) entry ≡ true
+        → goes_on (last_version book) (last_horizon book) entry ≡ true
     by_test true is same = is
     by_test false is same = cc
 
@@ -51,16 +52,21 @@ read-below version (t ∷ batch) all =
     let parts = and_parts (nat_lt t.read version) (list_all (λ (t : Transaction). nat_lt t.read version) batch) all in
     (ltb-true t.read version parts.0, read-below version batch parts.1)
 
--- what goes on from a version
-pub going-on : (last : ℕ) (entry : Entry) → goes_on last entry ≡ true
+-- what goes on from a version and a horizon
+pub going-on : (last horizon : ℕ) (entry : Entry) → goes_on last horizon entry ≡ true
     → (last < entry.version) × (entry.prev ≡ last) × ReadBelow entry.version entry.batch
-going-on last entry on =
+    × (entry.horizon < entry.version)
+going-on last horizon entry on =
     let reads = list_all (λ (t : Transaction). nat_lt t.read entry.version) entry.batch in
-    let chain = and_parts (entry.prev == last) (nat_lt last entry.version && reads) on in
-    let above = and_parts (nat_lt last entry.version) reads chain.1 in (
+    let is_next = has_next_horizon horizon entry in
+    let chain = and_parts (entry.prev == last) (nat_lt last entry.version && (is_next && reads)) on in
+    let above = and_parts (nat_lt last entry.version) (is_next && reads) chain.1 in
+    let next = and_parts is_next reads above.1 in
+    let horizons = and_parts (nat_le horizon entry.horizon) (nat_lt entry.horizon entry.version) next.0 in (
       ltb-true last entry.version above.0,
       eqb-true entry.prev last chain.0,
-      read-below entry.version entry.batch above.1,
+      read-below entry.version entry.batch next.1,
+      ltb-true entry.horizon entry.version horizons.1,
     )
 
 both : (version : ℕ) (batch : List Transaction) → ReadBelow version batch → AllByRecursion NamesWrites batch
@@ -74,9 +80,9 @@ pub one-entry-more : (resolvers capacity : ℕ) (book : List Entry) (entry : Ent
     → AllByRecursion (λ (move : Move). move.to < resolvers) entry.moves
     → AreEntries resolvers 0 (book ++ entry ∷ [])
 one-entry-more resolvers capacity book entry entries none names targets =
-    let on = going-on (last_version book) entry (may-append capacity book entry none) in
+    let on = going-on (last_version book) (last_horizon book) entry (may-append capacity book entry none) in
     entries_go_on resolvers 0 book entry entries
-    (on.0, on.1, targets, both entry.version entry.batch on.2 names, tt)
+    (on.0, (on.1, on.3), targets, both entry.version entry.batch on.2 names, tt)
 
 -- a front of such entries stays one, whatever an append to it answers
 pub front-after : (resolvers capacity : ℕ) (old new : List Entry) (entry : Entry)
@@ -141,6 +147,16 @@ moved config front move old new (Ok given) answers same there =
     let made = answers-fault (move_fault old move) given (λ _. new ≡ moving old move) answers in
     subst (IsThere config front) (sym made.1) (sequencer_moves front old move there.0 made.0, there.1, there.2)
 
+-- and one of which the window was set
+pub windowed : {T : Type 0} (config : Config) (front : List Entry) (window : ℕ) (old new : Sequencer)
+    (result : Result T Refusal)
+    → AnswersExactly result (set_window_fault window) (λ _. new ≡ windowing old window) → OnErr result (new ≡ old)
+    → IsThere config front old → IsThere config front new
+windowed config front window old new (Err why) answers same there = subst (IsThere config front) (sym same) there
+windowed config front window old new (Ok given) answers same there =
+    let set = given-fault (set_window_fault window) given (λ _. new ≡ windowing old window) answers in
+    subst (IsThere config front) (sym set.1) (sequencer_windows front old window there.0 set.0, there.1, there.2)
+
 -- a new one is at the front of no entries
 pub starts : (config : Config) (front : List Entry) (state : Sequencer) (proxies resolvers : ℕ) → front ≡ []
     → state ≡ fresh proxies resolvers 0 → proxies ≡ config.proxies → resolvers ≡ suc (length config.resolver_splits)
@@ -169,7 +185,7 @@ module _ (front : List Entry) (batch : List Transaction) (state : Sequencer) (ti
   read-below-it capacity none = (
     ap last_version longer_is ∙ last-push front entry ∙ ap (λ (e : Entry). e.version) entry_is,
     subst (λ (e : Entry). ReadBelow e.version e.batch) entry_is
-        (going-on (last_version front) entry (may-append capacity front entry none)).2,
+        (going-on (last_version front) (last_horizon front) entry (may-append capacity front entry none)).2,
   )
 
   -- the moves of a planned ticket are the last ones there

@@ -9,7 +9,7 @@ use Rattle.fdb_keys.specs.declared.refusal.Refusal.{Refusal}
 use Rattle.fdb_keys.specs.declared.refusal.Refusal.TheVariants.{Unknown, Failed}
 use Rattle.fdb_txn.specs.declared.entry.Entry.{Entry}
 use Rattle.fdb_txn.specs.book.Book.{seen_of}
-use Rattle.fdb_txn.specs.book.History.{AreEntries}
+use Rattle.fdb_txn.specs.book.History.{AreEntries, HorizonsRise}
 use Rattle.fdb_txn.specs.Turn.{turn_fault}
 use Rattle.fdb_resolver.specs.Parts.{IsPart}
 use Rattle.fdb_resolver.specs.declared.part.Part.{Part}
@@ -42,7 +42,7 @@ module _ (splits : List Point) (sent : PartAtFront) (is : IsLastPart splits sent
       sent.part.resolver sent.part (omega (arith, above, prev)) is.part_is
 
   -- A resolver at the front that has one entry less takes it, and says what the rule says.
-  module _ (own : List Entry) (more : HasOneMore own sent.front) (old : Resolver)
+  module _ (rise : HorizonsRise 0 sent.front) (own : List Entry) (more : HasOneMore own sent.front) (old : Resolver)
       (at : IsResolverAt splits own old.index old) (mine : sent.part.resolver ≡ old.index) where
     at-before : IsResolverAt splits is.before sent.part.resolver old
     at-before =
@@ -54,8 +54,8 @@ module _ (splits : List Point) (sent : PartAtFront) (is : IsLastPart splits sent
         → HasTaken old sent.part verdicts new
         → (verdicts.answers ≡ verdicts_on splits sent.part.resolver (seen_of is.before) is.entry)
         × IsResolverAt splits (is.before ++ is.entry ∷ []) sent.part.resolver new
-    goes-on = (resolver_goes_on splits is.before is.entry sent.part.resolver old sent.part entries-here at-before
-        is.part_is).1
+    goes-on = (resolver_goes_on splits is.before is.entry sent.part.resolver old sent.part entries-here
+        (subst (HorizonsRise 0) is.front_is rise) at-before is.part_is).1
 
     pub says : (verdicts : Verdicts) (new : Resolver) → IsAnswer old sent.part verdicts
         → HasTaken old sent.part verdicts new → old.index < suc (length splits)

@@ -9,7 +9,7 @@ use Rattle.fdb_keys.specs.declared.refusal.Refusal.{Refusal}
 use Rattle.fdb_keys.specs.declared.refusal.Refusal.TheVariants.{NotCommitted, TransactionTooOld}
 use Rattle.fdb_txn.specs.declared.entry.Entry.{Entry}
 use Rattle.fdb_txn.specs.book.Book.{Head, Place, Seen, head_of, placed, seen_of, last_version}
-use Rattle.fdb_txn.specs.book.History.{AreEntries, ReadsBelow}
+use Rattle.fdb_txn.specs.book.History.{AreEntries, HorizonsRise, ReadsBelow}
 use Rattle.fdb_txn.specs.book.Once.{NoIdTwice}
 use Rattle.fdb_txn.specs.book.Places.{place_in, place_of, place_at}
 use Rattle.fdb_txn.specs.book.Transactions.{Transaction}
@@ -118,12 +118,12 @@ module _ (splits : List Point) (long : List Entry) (told : OutcomeAtFront) (tran
       (subst (λ (t : Transaction). t.read < (entry.0).version) asked one)
 
   -- where it is committed it has its receipt there
-  pub receipt-told : NoIdTwice long → (number next : ℕ) → IsOpenAt splits number next long transcript
-      → settle_fault told.outcome ≡ None
+  pub receipt-told : NoIdTwice long → HorizonsRise 0 long → (number next : ℕ)
+      → IsOpenAt splits number next long transcript → settle_fault told.outcome ≡ None
       → IsReceipt splits (record { front = long; spot = spot_told told; transcript = transcript })
-  receipt-told ids number next opened none =
+  receipt-told ids rise number next opened none =
       let resolvers = suc (length splits) in
-      let book = (books_are_entries resolvers long).1 (entries, ids) in
+      let book = (books_are_entries resolvers long).1 (entries, ids, rise) in
       let became = fault-commits told.outcome none in
       let commits =
       became-committed splits is.there told.place became.0 became.1 told.outcome is.by_rule became.2 in

@@ -17,7 +17,7 @@ use Rattle.fdb_keys.specs.declared.refusal.Refusal.TheVariants.{NoMemory, WrongS
 use Rattle.fdb_txn.specs.Equality.{sealed_eq}
 use Rattle.fdb_txn.proofs.Exports.{sealed_eq_decides}
 use Rattle.fdb_txn.specs.declared.entry.Entry.{Entry}
-use Rattle.fdb_txn.specs.book.History.{AreEntries}
+use Rattle.fdb_txn.specs.book.History.{AreEntries, HorizonsRise}
 use Rattle.fdb_txn.specs.book.Transactions.{Transaction}
 use Rattle.fdb_book.specs.Fronts.{IsPrefix}
 use Rattle.fdb_sequencer.specs.declared.ticket.Ticket.{Ticket}
@@ -38,7 +38,8 @@ use Rattle.fdb_sections.proofs.CommitProxyLemmas.{front-is, before-count}
 -- the ticket of a front's last entry, which comes to a proxy with fewer entries
 module _ (config : Config) (own front : List Entry) (proxy : CommitProxy) (ticket : Ticket)
     (is : IsTicketOf own front proxy.batch ticket) (agree : length own ≤ length front → IsPrefix own front)
-    (entries : AreEntries (suc (length config.resolver_splits)) 0 front) (at : IsCommitProxyAt config own proxy) where
+    (entries : AreEntries (suc (length config.resolver_splits)) 0 front) (rise : HorizonsRise 0 front)
+    (at : IsCommitProxyAt config own proxy) where
   abbrev before : List Entry
   before = take ticket.index front
 
@@ -63,6 +64,7 @@ module _ (config : Config) (own front : List Entry) (proxy : CommitProxy) (ticke
   same-entry = λ i. record {
     version = (sym is.its.version) i;
     prev = (sym is.its.prev) i;
+    horizon = (sym is.its.horizon) i;
     moves = is.entry.moves;
     batch = is.its.places i;
   }
@@ -86,16 +88,26 @@ module _ (config : Config) (own front : List Entry) (proxy : CommitProxy) (ticke
       ((own ++ between) ++ entry_of its proxy.batch ∷ [])
   entries-there = subst (AreEntries (suc (length config.resolver_splits)) 0) whole entries
 
+  rise-there : HorizonsRise 0 ((own ++ between) ++ entry_of its proxy.batch ∷ [])
+  rise-there = subst (HorizonsRise 0) whole rise
+
   moves-there : ticket.moves ≡ dated_moves (between ++ entry_of its proxy.batch ∷ [])
   moves-there = is.moves ∙ ap dated_moves behind
 
   pub may-learn : IsTicketFor proxy ticket
   may-learn =
-      let law = proxies_learn_their_tickets config own between proxy its at entries-there number moves-there in
-      record { targets = law.0.targets; rising = law.0.rising; later = law.0.later }
+      let law = proxies_learn_their_tickets config own between proxy its at entries-there rise-there number moves-there
+      in
+      record {
+        targets = law.0.targets;
+        rising = law.0.rising;
+        later = law.0.later;
+        horizon = law.0.horizon;
+        below = law.0.below;
+      }
 
   learns : learn_fault proxy ticket ≡ (if is_sealed proxy.stage then None else Some WrongState)
-  learns = (proxies_learn_their_tickets config own between proxy its at entries-there number moves-there).1
+  learns = (proxies_learn_their_tickets config own between proxy its at entries-there rise-there number moves-there).1
 
   -- the state refuses it only as it does where no batch is sealed, or for memory
   pub refused-as : (T : Type 0) (why : Refusal) (P : T → Type 0)
@@ -136,7 +148,7 @@ module _ (config : Config) (own front : List Entry) (proxy : CommitProxy) (ticke
   pub is-there : (new : CommitProxy) → HasLearntTicket proxy ticket new → IsThere config front new
   is-there new learnt = λ _.
       subst (λ (shown : List Entry). IsCommitProxyAt config shown new) (sym whole)
-      ((proxies_learn_their_tickets config own between proxy its at entries-there number moves-there).2 new
+      ((proxies_learn_their_tickets config own between proxy its at entries-there rise-there number moves-there).2 new
       (its-learnt new learnt)).0
 
 -- one whose ticket the state refused stays there, or has failed
@@ -184,14 +196,17 @@ module _ (own front : List Entry) (batch : List Transaction) (ticket : Ticket) (
       && pointwise dated_eq ticket.moves (dated_moves (drop (length own) front))
 
   each-test : Decides tests
-      (((((ticket.index ≡ n) × (ticket.version ≡ entry.version)) × (ticket.prev ≡ entry.prev))
-      × (entry.batch ≡ batch)) × (ticket.moves ≡ dated_moves (drop (length own) front)))
+      ((((((ticket.index ≡ n) × (ticket.version ≡ entry.version)) × (ticket.prev ≡ entry.prev))
+      × (ticket.horizon ≡ entry.horizon)) × (entry.batch ≡ batch))
+      × (ticket.moves ≡ dated_moves (drop (length own) front)))
   each-test =
       Decides-and _ _
       (Decides-and _ _
       (Decides-and _ _
+      (Decides-and _ _
       (Decides-and _ _ (Decides-eqb ticket.index n) (Decides-eqb ticket.version entry.version))
       (Decides-eqb ticket.prev entry.prev))
+      (Decides-eqb ticket.horizon entry.horizon))
       (items_eq_decides sealed_eq sealed_eq_decides entry.batch batch))
       (items_eq_decides dated_eq dated_eq_decides ticket.moves (dated_moves (drop (length own) front)))
 
@@ -199,7 +214,7 @@ module _ (own front : List Entry) (batch : List Transaction) (ticket : Ticket) (
   decided = (
     λ all.
         let parts = each-test.0 all in
-        let index = parts.0.0.0.0 in record {
+        let index = parts.0.0.0.0.0 in record {
           entry = entry;
           last = record {
             count = count ∙ ap suc (sym index);
@@ -208,9 +223,10 @@ module _ (own front : List Entry) (batch : List Transaction) (ticket : Ticket) (
           behind = subst (λ (i : ℕ). length own ≤ i) (sym index) behind;
           its = record {
             index = refl;
-            version = parts.0.0.0.1;
-            prev = parts.0.0.1;
+            version = parts.0.0.0.0.1;
+            prev = parts.0.0.0.1;
             places = parts.0.1;
+            horizon = parts.0.0.1;
           };
           moves = parts.1;
         },
@@ -222,8 +238,11 @@ module _ (own front : List Entry) (batch : List Transaction) (ticket : Ticket) (
         each-test.1 (
           (
             (
-              (index, is.its.version ∙ ap (λ (e : Entry). e.version) same),
-              is.its.prev ∙ ap (λ (e : Entry). e.prev) same,
+              (
+                (index, is.its.version ∙ ap (λ (e : Entry). e.version) same),
+                is.its.prev ∙ ap (λ (e : Entry). e.prev) same,
+              ),
+              is.its.horizon ∙ ap (λ (e : Entry). e.horizon) same,
             ),
             sym (ap (λ (e : Entry). e.batch) same) ∙ is.its.places,
           ),

@@ -49,18 +49,19 @@ WorkedSessions =
     × (learning fresh received ≡ record fresh { front = two_in_one_entry; mark = 100 })
     × (learning marked received ≡ marked)
 
--- the second of the two transactions, in an entry so far behind its read version that it is too old
+-- the second of the two transactions, in an entry so far above its read version that it read below the horizon
 abbrev pub far : List Entry
 far = record {
   version = 5000001;
   prev = 0;
+  horizon = 1;
   moves = [];
   batch = commit_request_of (reads_and_sets 1 None) ∷ [];
 } ∷ []
 
 -- The second one read what the first one wrote: it is turned down for a conflict, and not as too old; the first one
--- isn't turned down, and on a front without the entry nobody is. In an entry behind the window it is too old, and has
--- no conflict.
+-- isn't turned down, and on a front without the entry nobody is. In an entry whose horizon it read below it is too old,
+-- and has no conflict.
 abbrev pub WorkedTurnedDown : Type 0
 WorkedTurnedDown =
     IsTurnedDown [] two_in_one_entry (reads_and_sets 1 None) refusal.NotCommitted

@@ -17,10 +17,11 @@ use Rattle.fdb_proxy.specs.declared.position.Position.{Position}
 use Rattle.fdb_proxy.specs.Parting.{IsPartOf}
 use Rattle.fdb_proxy.specs.Verdicts.{moves_through, verdicts_on}
 use Rattle.fdb_roles.specs.AtBook.{IsLogAt}
+use Rattle.fdb_roles.specs.ProxyStages.{position_in}
 
 -- the position of an entry behind others
 abbrev pub position_after : List Entry → Entry → Position
-position_after before entry = record { index = length before; version = entry.version; prev = entry.prev }
+position_after before entry = position_in (length before) entry
 
 -- a part with the front that it was sent with
 pub record PartAtFront : Type 0 where

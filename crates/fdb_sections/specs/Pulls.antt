@@ -3,7 +3,7 @@ use Rattle.std.specs.Prelude.{◌≡◌, ◌==◌, ◌&&◌, ◌-◌, ◌⊎◌,
 use Rattle.std.specs.Prelude.{None, unwrap_or, if◌then◌else◌}
 use Rattle.fdb_keys.specs.declared.refusal.Refusal.{Refusal}
 use Rattle.fdb_keys.specs.declared.refusal.Refusal.TheVariants.{Failed}
-use Rattle.fdb_txn.specs.rules.Owners.{window}
+use Rattle.fdb_txn.specs.Limits.{window}
 use Rattle.fdb_log.specs.Logs.{peek_of, tag_fault, HasPopped}
 use Rattle.fdb_storage.specs.Shards.{HasFailed, HasForgotten}
 use Rattle.fdb_sections.specs.declared.machines.pull.Phase.{Phase}
@@ -72,7 +72,7 @@ HasDropped it log log_new new = in_phase it.phase
 abbrev pub is_to_forget : ShardAtFront → ℕ → Bool
 is_to_forget shard floor = nat_lt 0 floor && nat_le floor shard.shard.version
 
--- The shard forgot what lies more than the window below the committed version, where it has come that far.
+-- The shard forgot what lies more than the greatest window below the committed version, where it has come that far.
 abbrev pub HasLetForget : PullMachine → ℕ → ShardAtFront → ShardAtFront → PullMachine → Type 0
 HasLetForget it committed shard shard_new new = in_phase it.phase
   where

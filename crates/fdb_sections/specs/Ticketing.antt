@@ -21,11 +21,13 @@ pub record IsOfEntry (number : ℕ) (entry : Entry) (batch : List Transaction) (
   pub version : ticket.version ≡ entry.version
   pub prev : ticket.prev ≡ entry.prev
   pub places : entry.batch ≡ batch
+  pub horizon : ticket.horizon ≡ entry.horizon
 
 -- whether it is
 abbrev pub is_of_entry : ℕ → Entry → List Transaction → Ticket → Bool
 is_of_entry number entry batch ticket =
     (ticket.index == number) && (ticket.version == entry.version) && (ticket.prev == entry.prev)
+    && (ticket.horizon == entry.horizon)
     && pointwise sealed_eq entry.batch batch
 
 -- The ticket is that of the front's last entry, which lies behind the own front and has the batch, and it tells the

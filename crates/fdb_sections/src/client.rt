@@ -114,10 +114,10 @@ impl<B: ClusterName> Client<B> {
         self.state.read_version()
     }
 
-    /// Opens a transaction without operations, at the greater of the granted version and the session's mark, and answers
-    /// that version, which the session's front then reaches. One that was open is abandoned. Refused as `WrongState`
-    /// while the session isn't told what became of the one that it submitted, as `Exhausted` once all numbers but the
-    /// greatest one are used, and as `NoMemory`; then nothing changes.
+    /// Opens a transaction without operations, at the greater of the granted version and the session's mark, and
+    /// answers that version, which the session's front then reaches. One that was open is abandoned. Refused as
+    /// `WrongState` while the session isn't told what became of the one that it submitted, as `Exhausted` once all
+    /// numbers but the greatest one are used, and as `NoMemory`; then nothing changes.
     pub fn begin(&mut self, alloc: Global, granted: &GrantMessage<B>) -> Result<u64, Refusal>
         ensures answers { Answers result (unless_submitted self.old (begin_fault self.old.session)) (λ version.
             (version ≡ max granted.now.committed self.old.session.mark)
@@ -246,9 +246,9 @@ impl<B: ClusterName> Client<B> {
 
     /// The pairs of the range after the open transaction's own writes, on the serial map of the session's front at the
     /// read version, as `Txn::get_range` gives them, noted with the operation. The shards are asked one after another.
-    /// Refused as `NoTransaction` where none is open, as `NoMemory`, and as `LentShards::new` refuses to lend the shards
-    /// for the range at that version; then nothing changes. It takes what `Txn::get_range` takes, with pages of the
-    /// shards.
+    /// Refused as `NoTransaction` where none is open, as `NoMemory`, and as `LentShards::new` refuses to lend the
+    /// shards for the range at that version; then nothing changes. It takes what `Txn::get_range` takes, with pages of
+    /// the shards.
     pub fn get_range_at(
         &mut self,
         alloc: Global,

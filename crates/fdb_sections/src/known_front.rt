@@ -4,7 +4,7 @@ ghost use Rattle.fdb_keys.specs.Answers.{Answers, AnswersExactly};
 ghost use Rattle.std.specs.List.{AllByRecursion};
 ghost use Rattle.fdb_txn.specs.declared.entry.Move.{Move as AMove};
 ghost use Rattle.fdb_txn.specs.book.Book.{last_version};
-ghost use Rattle.fdb_txn.specs.book.History.{AreEntries, IsBook, IsSealed};
+ghost use Rattle.fdb_txn.specs.book.History.{AreEntries, HorizonsRise, IsBook, IsSealed};
 ghost use Rattle.fdb_book.specs.Fronts.{IsPrefix};
 ghost use Rattle.fdb_sections.specs.Issuing.{AppendsToFront};
 ghost use Rattle.fdb_sections.specs.Turns.{front_fault, HasOneMore};
@@ -123,6 +123,13 @@ impl<B: ClusterName> KnownFront<B> {
         let _front = &self.front;
     }
 
+    /// Their horizons never fall. It does nothing but say so.
+    pub(crate) fn know_horizons(&self)
+        ensures { HorizonsRise 0 self.now }
+    {
+        let _count = self.front.len();
+    }
+
     /// They are a book. It does nothing but say so.
     pub(crate) fn know_book(&self)
         ensures { IsBook (suc (length B.config.resolver_splits)) self.now }
@@ -150,8 +157,10 @@ impl<B: ClusterName> KnownFront<B> {
     pub(crate) fn check_next(&self, other: &Self) -> Result<(), Refusal>
         ensures answers { AnswersExactly result (front_fault self.now other.now) (λ _. HasOneMore self.now other.now) }
         ensures entries { AreEntries (suc (length B.config.resolver_splits)) 0 other.now }
+        ensures horizons { HorizonsRise 0 other.now }
     {
         other.know_entries();
+        other.know_horizons();
         let own = self.len();
         let theirs = other.len();
         self.know_one_book(other);

@@ -25,8 +25,9 @@ ticket_eq_decides a b =
     (Decides-and _ _ (Decides-eqb a.index b.index)
     (Decides-and _ _ (Decides-eqb a.version b.version)
     (Decides-and _ _ (Decides-eqb a.prev b.prev)
+    (Decides-and _ _ (Decides-eqb a.horizon b.horizon)
     (Decides-and _ _ (items_eq_decides dated_eq dated_eq_decides a.moves b.moves)
-    (items_eq_decides move_eq move_eq_decides a.pending b.pending)))))
+    (items_eq_decides move_eq move_eq_decides a.pending b.pending))))))
     in (
       λ equal.
           let same = parts.0 equal in
@@ -35,8 +36,9 @@ ticket_eq_decides a b =
             index = same.1.0 i;
             version = same.1.1.0 i;
             prev = same.1.1.1.0 i;
-            moves = same.1.1.1.1.0 i;
-            pending = same.1.1.1.1.1 i;
+            horizon = same.1.1.1.1.0 i;
+            moves = same.1.1.1.1.1.0 i;
+            pending = same.1.1.1.1.1.1 i;
           },
       λ same.
           parts.1 (
@@ -47,7 +49,10 @@ ticket_eq_decides a b =
                 ap (λ (t : Ticket). t.version) same,
                 (
                   ap (λ (t : Ticket). t.prev) same,
-                  (ap (λ (t : Ticket). t.moves) same, ap (λ (t : Ticket). t.pending) same),
+                  (
+                    ap (λ (t : Ticket). t.horizon) same,
+                    (ap (λ (t : Ticket). t.moves) same, ap (λ (t : Ticket). t.pending) same),
+                  ),
                 ),
               ),
             ),

@@ -12,11 +12,14 @@ use Rattle.fdb_sequencer.specs.declared.ticket.Ticket.{Ticket}
 use Rattle.fdb_sequencer.specs.declared.dated.Dated.{Dated}
 use Rattle.fdb_sequencer.specs.Moves.{dated}
 use Rattle.fdb_sequencer.specs.Sequencer.{Sequencer, fresh, unlearnt_by, next_version, planned, accept_fault, accepting}
-use Rattle.fdb_sequencer.specs.Sequencer.{move_fault, moving}
-use Rattle.fdb_sequencer.specs.TicketLaws.{Act, Moves, Takes, after, AreTaken, tickets_in, moves_made, taking_effect}
-use Rattle.fdb_sequencer.specs.TicketLaws.{told, last_of, AreRisingUpTo, GoToResolvers, MayBeLearnt}
+use Rattle.fdb_sequencer.specs.Sequencer.{move_fault, moving, windowing}
+use Rattle.fdb_sequencer.specs.TicketLaws.{Act, Moves, Takes, Windows, after, AreTaken, tickets_in, moves_made}
+use Rattle.fdb_sequencer.specs.TicketLaws.{taking_effect, told, last_of, last_horizon_of, AreRisingUpTo}
+use Rattle.fdb_sequencer.specs.TicketLaws.{GoToResolvers, MayBeLearnt}
 use Rattle.fdb_sequencer.specs.TicketLaws.{EachMoveTakesEffectOnce, EachProxyGetsEachMoveOnce, PlannedMayBeLearnt}
 use Rattle.fdb_sequencer.proofs.TicketLemmas.{Exist, accepted_is_now, is_granted, next_version-above, pending_exist}
+use Rattle.fdb_sequencer.proofs.HorizonLemmas.{HasWindow, fresh_has_window, stays_with_window, next_horizon-below}
+use Rattle.fdb_sequencer.proofs.HorizonLemmas.{next_horizon-rises, last_horizon-within}
 
 pub each_move_takes_effect_once : EachMoveTakesEffectOnce
 each_move_takes_effect_once s [] taken = sym (append-nil s.pending)
@@ -28,6 +31,8 @@ each_move_takes_effect_once s (Takes ticket ∷ acts) taken =
     append_assoc ticket.pending effects left
     ∙ (λ i. (accepted_is_now s ticket taken.0).pending i
     ++ each_move_takes_effect_once (accepting s ticket) acts taken.1 i)
+each_move_takes_effect_once s (Windows window ∷ acts) taken =
+    each_move_takes_effect_once (windowing s window) acts taken.1
 
 -- each list with these after it
 abbrev with_more : List Dated → List (List Dated) → List (List Dated)
@@ -124,6 +129,7 @@ gets-each s (Takes ticket ∷ acts) proxy within taken =
     ⊎_elim (λ same. told-own s ticket proxy (tickets_in acts) left taken.0 same rest)
     (λ differ. told-other s ticket proxy (tickets_in acts) left taken.0 within differ rest)
     (cases_Bool (ticket.proxy == proxy))
+gets-each s (Windows window ∷ acts) proxy within taken = gets-each (windowing s window) acts proxy within taken.1
 
 pub each_proxy_gets_each_move_once : EachProxyGetsEachMoveOnce
 each_proxy_gets_each_move_once s acts proxy count within taken =
@@ -224,6 +230,10 @@ ready-takes s ticket proxy last ready accepted = ⊎_elim own other (cases_Bool 
           pending = tt;
         })
 
+ready-windows : (s : Sequencer) (window proxy last : ℕ) → IsReady proxy last s → IsReady proxy last (windowing s window)
+ready-windows s window proxy last ready =
+    record { within = ready.within; through = ready.through; learn = ready.learn; pending = ready.pending }
+
 stays-ready : (s : Sequencer) (acts : List Act) (proxy last : ℕ) → IsReady proxy last s → AreTaken s acts
     → IsReady proxy (last_of proxy last (tickets_in acts)) (fold after s acts)
 stays-ready s [] proxy last ready taken = ready
@@ -232,6 +242,8 @@ stays-ready s (Moves move ∷ acts) proxy last ready taken =
 stays-ready s (Takes ticket ∷ acts) proxy last ready taken =
     stays-ready (accepting s ticket) acts proxy (if ticket.proxy == proxy then ticket.version else last)
     (ready-takes s ticket proxy last ready taken.0) taken.1
+stays-ready s (Windows window ∷ acts) proxy last ready taken =
+    stays-ready (windowing s window) acts proxy last (ready-windows s window proxy last ready) taken.1
 
 -- there are as many proxies and resolvers as at first
 same-roles : (s : Sequencer) (acts : List Act)
@@ -239,6 +251,7 @@ same-roles : (s : Sequencer) (acts : List Act)
 same-roles s [] = (refl, refl)
 same-roles s (Moves move ∷ acts) = same-roles (moving s move) acts
 same-roles s (Takes ticket ∷ acts) = same-roles (accepting s ticket) acts
+same-roles s (Windows window ∷ acts) = same-roles (windowing s window) acts
 
 -- at first each proxy has had all
 none-at-first : (proxies proxy : ℕ) → at (replicate proxies []) proxy ≡ []
@@ -258,9 +271,9 @@ ready-at-first proxies resolvers last proxy within =
       pending = tt;
     }
 
-ready-is-planned : (s : Sequencer) (proxy advance last : ℕ) → IsReady proxy last s
-    → MayBeLearnt s.resolvers last (planned s proxy advance)
-ready-is-planned s proxy advance last ready =
+ready-is-planned : (s : Sequencer) (proxy advance last horizon : ℕ) → HasWindow s → horizon ≤ s.horizon
+    → IsReady proxy last s → MayBeLearnt s.resolvers last horizon (planned s proxy advance)
+ready-is-planned s proxy advance last horizon has rises ready =
     let above = (next_version-above s.last advance).0 in
     let learn =
     more-to-learn s.resolvers last s.last (next_version s.last advance) (unlearnt_by s proxy) s.pending ready.through
@@ -270,6 +283,10 @@ ready-is-planned s proxy advance last ready =
       above = learn.above;
       rising = learn.rising;
       targets = learn.targets;
+      horizon = omega (arith, rises, next_horizon-rises s.horizon s.window (next_version s.last advance));
+      below =
+          next_horizon-below s.horizon s.window (next_version s.last advance) (omega (arith, has.within, above))
+          has.some;
     }
 
 pub planned_may_be_learnt : PlannedMayBeLearnt
@@ -281,5 +298,8 @@ planned_may_be_learnt proxies resolvers last acts taken proxy advance granted =
     let ready = stays-ready (fresh proxies resolvers last) acts proxy 0
     (ready-at-first proxies resolvers last proxy within) taken in
     let last_version = last_of proxy 0 (tickets_in acts) in
-    subst (λ (count : ℕ). MayBeLearnt count last_version (planned s proxy advance)) same.1
-    (ready-is-planned s proxy advance last_version ready)
+    let last_horizon = last_horizon_of proxy 0 (tickets_in acts) in
+    let has = stays_with_window (fresh proxies resolvers last) acts (fresh_has_window proxies resolvers last) taken in
+    let rises = last_horizon-within (fresh proxies resolvers last) acts proxy 0 (omega arith) taken in
+    subst (λ (count : ℕ). MayBeLearnt count last_version last_horizon (planned s proxy advance)) same.1
+    (ready-is-planned s proxy advance last_version last_horizon has rises ready)

@@ -1,8 +1,8 @@
 -- The committed version is the greatest one that was reported.
 use Rattle.std.proofs.Common.{◌≡◌, ◌⊎◌, ⊎_elim, inl, inr, refl, ℕ, max, Bool, true, ◌||◌, ◌==◌, [], ◌∷◌, arith}
 use Rattle.std.proofs.lemmas.Bool.{or_cases, or_left, or_right, eq-eqb, eqb-true, cases_lt}
-use Rattle.fdb_sequencer.specs.Sequencer.{accepting, moving, reporting}
-use Rattle.fdb_sequencer.specs.TicketLaws.{Moves, Takes, Acts, Reports, CommittedIsTheGreatestReported}
+use Rattle.fdb_sequencer.specs.Sequencer.{accepting, moving, windowing, reporting}
+use Rattle.fdb_sequencer.specs.TicketLaws.{Moves, Takes, Windows, Acts, Reports, CommittedIsTheGreatestReported}
 
 -- the greater of two numbers is one of them
 one_of : (a b end : ℕ) → max a b ≡ end → (a ≡ end) ⊎ (b ≡ end)
@@ -22,6 +22,7 @@ greatest_reported s [] =
     ((omega (arith), tt), or_left (s.committed == s.committed) _ (eq-eqb s.committed _ refl))
 greatest_reported s (Acts (Moves move) ∷ calls) = greatest_reported (moving s move) calls
 greatest_reported s (Acts (Takes ticket) ∷ calls) = greatest_reported (accepting s ticket) calls
+greatest_reported s (Acts (Windows window) ∷ calls) = greatest_reported (windowing s window) calls
 greatest_reported s (Reports version ∷ calls) =
     let rest = greatest_reported (reporting s version) calls in
     ((omega (arith, rest.0.0), (omega (arith, rest.0.0), rest.0.1)), named s.committed version _ _ rest.1)

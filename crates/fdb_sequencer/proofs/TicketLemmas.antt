@@ -1,6 +1,6 @@
--- What is accepted was planned, is accepted once, and makes a book.
-use Rattle.std.proofs.Common.{◌≡◌, ◌∙◌, refl, sym, ap, subst, map, arith, ⊎_elim, ℕ, zero, suc, ◌+◌, ◌-◌, ◌<◌, ◌≤◌}
-use Rattle.std.proofs.Common.{true, List, [], ◌∷◌, fold, Some, None}
+-- What is accepted was planned, and is accepted once.
+use Rattle.std.proofs.Common.{◌≡◌, ◌∙◌, refl, ap, arith, ⊎_elim, ℕ, zero, suc, ◌+◌, ◌-◌, ◌<◌, ◌≤◌, true, List, []}
+use Rattle.std.proofs.Common.{◌∷◌, fold, Some, None}
 use Rattle.std.specs.List.{AllByRecursion}
 use Rattle.std.proofs.lemmas.Bool.{and_parts, and_from, cases_Bool, ltb-true, leb-true, eqb-true, lt-ltb, le-leb}
 use Rattle.std.proofs.lemmas.Bool.{eq-eqb}
@@ -9,18 +9,17 @@ use Rattle.fdb_keys.specs.declared.refusal.Refusal.TheVariants.{Stale}
 use Rattle.fdb_keys.proofs.Exports.{all-append, items_eq_decides}
 use Rattle.fdb_txn.specs.declared.entry.Move.{Move}
 use Rattle.fdb_txn.specs.Equality.{move_eq}
-use Rattle.fdb_txn.proofs.Exports.{move_eq_decides, books_are_entries}
-use Rattle.fdb_txn.specs.book.History.{AreEntries}
+use Rattle.fdb_txn.proofs.Exports.{move_eq_decides}
+use Rattle.fdb_txn.specs.book.Book.{next_horizon}
 use Rattle.fdb_sequencer.specs.declared.ticket.Ticket.{Ticket}
 use Rattle.fdb_sequencer.specs.Equality.{dated_eq}
 use Rattle.fdb_sequencer.proofs.EqualityLemmas.{dated_eq_decides}
 use Rattle.fdb_txn.specs.Limits.{ticket_limit, version_limit, greatest_advance}
 use Rattle.fdb_sequencer.specs.Moves.{moves_at}
 use Rattle.fdb_sequencer.specs.Sequencer.{Sequencer, moves_in, next_version, planned, plan_fault, is_planned}
-use Rattle.fdb_sequencer.specs.Sequencer.{accept_fault, accepting, move_fault, moving}
-use Rattle.fdb_sequencer.specs.TicketLaws.{Act, Moves, Takes, after, tickets_in, PlannedAreAccepted, AcceptedArePlanned}
-use Rattle.fdb_sequencer.specs.TicketLaws.{AcceptedOnce, IndicesCountUp, Issued, ReadsBelow, AreIssued}
-use Rattle.fdb_sequencer.specs.TicketLaws.{TicketsMakeABook, FirstTicketsAreABook, entry_of}
+use Rattle.fdb_sequencer.specs.Sequencer.{accept_fault, accepting, move_fault, moving, windowing}
+use Rattle.fdb_sequencer.specs.TicketLaws.{Act, Moves, Takes, Windows, after, PlannedAreAccepted, AcceptedArePlanned}
+use Rattle.fdb_sequencer.specs.TicketLaws.{AcceptedOnce, IndicesCountUp}
 
 -- what the test of a ticket says
 pub record IsNow (s : Sequencer) (ticket : Ticket) : Type 0 where
@@ -31,6 +30,7 @@ pub record IsNow (s : Sequencer) (ticket : Ticket) : Type 0 where
   pub above : s.last < ticket.version
   pub near : ticket.version ≤ s.last + greatest_advance
   pub within : ticket.version ≤ version_limit
+  pub horizon : ticket.horizon ≡ next_horizon s.horizon s.window ticket.version
   pub moves : ticket.moves ≡ moves_at (moves_in s) ticket.proxy ticket.version
   pub pending : ticket.pending ≡ s.pending
 
@@ -38,7 +38,8 @@ is_now : (s : Sequencer) (ticket : Ticket) → is_planned s ticket ≡ true → 
 is_now s ticket test =
     let all = and_parts _ _ test in
     let lists = and_parts _ _ all.1 in
-    let to_next = and_parts _ _ all.0 in
+    let to_horizon = and_parts _ _ all.0 in
+    let to_next = and_parts _ _ to_horizon.0 in
     let next = and_parts _ _ to_next.1 in
     let ends = and_parts _ _ next.0 in
     let to_prev = and_parts _ _ to_next.0 in
@@ -53,6 +54,7 @@ is_now s ticket test =
       above = ltb-true _ _ ends.0;
       near = leb-true _ _ ends.1;
       within = leb-true _ _ next.1;
+      horizon = eqb-true _ _ to_horizon.1;
       moves = (items_eq_decides dated_eq dated_eq_decides ticket.moves moves).0 lists.0;
       pending = (items_eq_decides move_eq move_eq_decides ticket.pending s.pending).0 lists.1;
     }
@@ -99,8 +101,10 @@ planned_are_accepted s proxy advance granted =
     let same : is_planned s (planned s proxy advance) ≡ true =
     and_from _ _
     (and_from _ _
+    (and_from _ _
     (and_from _ _ (and_from _ _ (and_from _ _ (lt-ltb _ _ is.is_proxy) (eq-eqb _ _ refl)) (lt-ltb _ _ is.accepted))
     (eq-eqb _ _ refl)) (and_from _ _ (and_from _ _ (lt-ltb _ _ above.0) (le-leb _ _ above.1)) (le-leb _ _ is.version)))
+    (eq-eqb _ _ refl))
     (and_from _ _ ((items_eq_decides dated_eq dated_eq_decides moves moves).1 refl)
     ((items_eq_decides move_eq move_eq_decides s.pending s.pending).1 refl)) in
     rw same refl
@@ -109,7 +113,8 @@ pub accepted_are_planned : AcceptedArePlanned
 accepted_are_planned s ticket accepted =
     let now = accepted_is_now s ticket accepted in
     let version = next_version-at s.last ticket.version now.above now.near in
-    let moves = now.moves ∙ ap (moves_at (moves_in s) ticket.proxy) version in (
+    let moves = now.moves ∙ ap (moves_at (moves_in s) ticket.proxy) version in
+    let horizon = now.horizon ∙ ap (next_horizon s.horizon s.window) version in (
       ticket.version - s.last,
       (
         omega arith,
@@ -119,6 +124,7 @@ accepted_are_planned s ticket accepted =
           index = now.index i;
           version = version i;
           prev = now.prev i;
+          horizon = horizon i;
           moves = moves i;
           pending = now.pending i;
         },
@@ -129,6 +135,7 @@ accepted-grows : (s : Sequencer) (acts : List Act) → s.accepted ≤ (fold afte
 accepted-grows s [] = omega arith
 accepted-grows s (Moves move ∷ acts) = accepted-grows (moving s move) acts
 accepted-grows s (Takes ticket ∷ acts) = omega (arith, accepted-grows (accepting s ticket) acts)
+accepted-grows s (Windows window ∷ acts) = accepted-grows (windowing s window) acts
 
 -- a ticket whose index was given is stale
 pub passed_is_stale : (s : Sequencer) (ticket : Ticket) → ticket.index < s.accepted → accept_fault s ticket ≡ Some Stale
@@ -151,6 +158,8 @@ indices_count_up s (Takes ticket ∷ acts) taken zero found is =
 indices_count_up s (Takes ticket ∷ acts) taken (suc k) found is =
     let rest = indices_count_up (accepting s ticket) acts taken.1 k found is in
     omega arith
+indices_count_up s (Windows window ∷ acts) taken k found is =
+    indices_count_up (windowing s window) acts taken.1 k found is
 
 -- the moves go to resolvers of which there are so many
 abbrev pub Exist : ℕ → List Move → Type 0
@@ -165,43 +174,3 @@ pub pending_exist : (s : Sequencer) (move : Move) → move_fault s move ≡ None
     → Exist s.resolvers (moving s move).pending
 pending_exist s move made exist =
     all-append (λ (one : Move). one.to < s.resolvers) s.pending (move ∷ []) exist (moved_exists s move made, tt)
-
--- a ticket's entry follows on the last version, with the pending moves
-record Follows (s : Sequencer) (ticket : Ticket) : Type 0 where
-  above : s.last < ticket.version
-  prev : ticket.prev ≡ s.last
-  pending : ticket.pending ≡ s.pending
-
-follows : (s : Sequencer) (ticket issued : Ticket) → accept_fault s ticket ≡ None → issued ≡ ticket → Follows s issued
-follows s ticket issued accepted same =
-    let now = accepted_is_now s ticket accepted in
-    subst (Follows s) (sym same) (record { above = now.above; prev = now.prev; pending = now.pending })
-
-entries_of : (s : Sequencer) (acts : List Act) (issued : List Issued) → Exist s.resolvers s.pending
-    → AreIssued s acts issued → AllByRecursion ReadsBelow issued → AreEntries s.resolvers s.last (map entry_of issued)
-entries_of s [] [] exist are reads = tt
-entries_of s [] (one ∷ issued) exist are reads = absurd (let same = are.1 in cc)
-entries_of s (Moves move ∷ acts) issued exist are reads =
-    entries_of (moving s move) acts issued (pending_exist s move are.0.0 exist) (are.0.1, are.1) reads
-entries_of s (Takes ticket ∷ acts) [] exist are reads = absurd (let same = are.1 in cc)
-entries_of s (Takes ticket ∷ acts) (one ∷ issued) exist are reads =
-    let same : one.0 ≡ ticket = let both = are.1 in cc in
-    let others : map (λ (other : Issued). other.0) issued ≡ tickets_in acts = let both = are.1 in cc in
-    let follows = follows s ticket one.0 are.0.0 same in
-    let rest = entries_of (accepting s ticket) acts issued tt (are.0.1, others) reads.1 in (
-      follows.above,
-      follows.prev,
-      subst (Exist s.resolvers) (sym follows.pending) exist,
-      reads.0,
-      subst (λ (t : Ticket). AreEntries s.resolvers t.version (map entry_of issued)) (sym same) rest,
-    )
-
-pub tickets_make_a_book : TicketsMakeABook
-tickets_make_a_book s acts issued legal are reads = entries_of s acts issued legal.targets are reads
-
-pub first_tickets_are_a_book : FirstTicketsAreABook
-first_tickets_are_a_book s acts issued legal first are reads once =
-    let entries : AreEntries s.resolvers 0 (map entry_of issued) =
-    subst (λ (last : ℕ). AreEntries s.resolvers last (map entry_of issued)) first
-    (tickets_make_a_book s acts issued legal are reads) in
-    ((books_are_entries s.resolvers (map entry_of issued)).1 (entries, once)).0

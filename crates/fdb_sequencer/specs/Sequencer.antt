@@ -9,6 +9,8 @@ use Rattle.fdb_keys.specs.Ranges.{is_empty_range}
 use Rattle.fdb_txn.specs.declared.entry.Move.{Move}
 use Rattle.fdb_txn.specs.Equality.{move_eq}
 use Rattle.fdb_txn.specs.Limits.{resolver_limit, proxy_limit, ticket_limit, version_limit, greatest_advance, move_limit}
+use Rattle.fdb_txn.specs.Limits.{window}
+use Rattle.fdb_txn.specs.book.Book.{next_horizon}
 use Rattle.fdb_sequencer.specs.declared.ticket.Ticket.{Ticket}
 use Rattle.fdb_sequencer.specs.Equality.{dated_eq}
 use Rattle.fdb_sequencer.specs.declared.dated.Dated.{Dated}
@@ -24,6 +26,10 @@ pub record Sequencer : Type 0 where
   pub last : ℕ
   -- the greatest version that was reported
   pub committed : ℕ
+  -- the window of the tickets to come
+  pub window : ℕ
+  -- the horizon of the last ticket that was accepted, 0 before the first
+  pub horizon : ℕ
   -- the moves that take effect with the next ticket that is accepted, the earliest one first
   pub pending : List Move
   -- for each proxy the moves that it hasn't had, but for the pending ones, by version
@@ -42,6 +48,8 @@ pub record IsSequencer (s : Sequencer) : Type 0 where
   pub targets : AllByRecursion (λ (move : Move). move.to < s.resolvers) s.pending
   pub made : s.made ≤ move_limit
   pub pending : length s.pending ≤ s.made
+  pub window : (1 ≤ s.window) × (s.window ≤ window)
+  pub horizon : s.horizon ≤ s.last
 
 -- a number is at least 1, and at most the limit
 abbrev pub is_count : ℕ → ℕ → Bool
@@ -53,7 +61,7 @@ new_fault proxies resolvers last =
     if is_count proxy_limit proxies && is_count resolver_limit resolvers && nat_le last version_limit then None
     else Some BadConfig
 
--- before the first ticket, the first report and the first move
+-- before the first ticket, the first report, the first move and the first change of the window
 abbrev pub fresh : ℕ → ℕ → ℕ → Sequencer
 fresh proxies resolvers last =
     record {
@@ -62,6 +70,8 @@ fresh proxies resolvers last =
       accepted = 0;
       last = last;
       committed = 0;
+      window = window;
+      horizon = 0;
       pending = (no_moves proxies).pending;
       unlearnt = (no_moves proxies).unlearnt;
       made = 0;
@@ -87,6 +97,7 @@ planned s proxy advance =
       index = s.accepted;
       version = next_version s.last advance;
       prev = s.last;
+      horizon = next_horizon s.horizon s.window (next_version s.last advance);
       moves = moves_at (moves_in s) proxy (next_version s.last advance);
       pending = s.pending;
     }
@@ -108,6 +119,7 @@ is_planned s ticket =
     nat_lt ticket.proxy s.proxies && (ticket.index == s.accepted) && nat_lt ticket.index ticket_limit
     && (ticket.prev == s.last)
     && is_next s.last ticket.version
+    && (ticket.horizon == next_horizon s.horizon s.window ticket.version)
     && (pointwise dated_eq ticket.moves (moves_at (moves_in s) ticket.proxy ticket.version)
     && pointwise move_eq ticket.pending s.pending)
 
@@ -122,6 +134,7 @@ accepting s ticket =
     record s {
       accepted = suc s.accepted;
       last = ticket.version;
+      horizon = ticket.horizon;
       pending = moves.pending;
       unlearnt = moves.unlearnt;
     }
@@ -136,6 +149,14 @@ move_fault s move =
 -- once the move was made
 abbrev pub moving : Sequencer → Move → Sequencer
 moving s move = record s { pending = (with_move (moves_in s) move).pending; made = suc s.made }
+
+-- why a window isn't set
+abbrev pub set_window_fault : ℕ → Option Refusal
+set_window_fault versions = if is_count window versions then None else Some BadConfig
+
+-- once the window was set
+abbrev pub windowing : Sequencer → ℕ → Sequencer
+windowing s versions = record s { window = versions }
 
 -- why a report isn't taken
 abbrev pub report_fault : Sequencer → ℕ → Option Refusal

@@ -7,40 +7,45 @@ use Rattle.fdb_txn.specs.declared.entry.Entry.{Entry}
 use Rattle.fdb_txn.specs.declared.entry.Move.{Move}
 use Rattle.fdb_txn.specs.book.Transactions.{Transaction, NamesWrites}
 use Rattle.fdb_txn.specs.book.Once.{NoIdTwice}
-use Rattle.fdb_txn.specs.book.History.{AreEntries, IsBook}
+use Rattle.fdb_txn.specs.book.History.{AreEntries, HorizonsRise, IsBook}
 use Rattle.fdb_sequencer.specs.declared.ticket.Ticket.{Ticket}
 use Rattle.fdb_txn.specs.Limits.{greatest_advance}
 use Rattle.fdb_sequencer.specs.declared.dated.Dated.{Dated}
 use Rattle.fdb_sequencer.specs.Moves.{dated}
 use Rattle.fdb_sequencer.specs.Sequencer.{Sequencer, IsSequencer, fresh, unlearnt_by, planned, plan_fault, accept_fault}
-use Rattle.fdb_sequencer.specs.Sequencer.{accepting, move_fault, moving, reporting}
+use Rattle.fdb_sequencer.specs.Sequencer.{accepting, move_fault, moving, set_window_fault, windowing, reporting}
 
--- what changes which tickets may come: a move is made, or a ticket is accepted
+-- what changes which tickets may come: a move is made, a ticket is accepted, or the window is set
 pub data Act : Type 0 where
   Moves : (move : Move) → Act
   Takes : (ticket : Ticket) → Act
+  Windows : (window : ℕ) → Act
 
 abbrev pub after : Sequencer → Act → Sequencer
 after s (Moves move) = moving s move
 after s (Takes ticket) = accepting s ticket
+after s (Windows window) = windowing s window
 
 -- each of the acts is taken in its turn
 abbrev pub AreTaken : Sequencer → List Act → Type 0
 AreTaken s [] = ⊤
 AreTaken s (Moves move ∷ acts) = (move_fault s move ≡ None) × AreTaken (moving s move) acts
 AreTaken s (Takes ticket ∷ acts) = (accept_fault s ticket ≡ None) × AreTaken (accepting s ticket) acts
+AreTaken s (Windows window ∷ acts) = (set_window_fault window ≡ None) × AreTaken (windowing s window) acts
 
 -- the tickets that are accepted, in order
 abbrev pub tickets_in : List Act → List Ticket
 tickets_in [] = []
 tickets_in (Moves move ∷ acts) = tickets_in acts
 tickets_in (Takes ticket ∷ acts) = ticket ∷ tickets_in acts
+tickets_in (Windows window ∷ acts) = tickets_in acts
 
 -- the moves that are made, in order
 abbrev pub moves_made : List Act → List Move
 moves_made [] = []
 moves_made (Moves move ∷ acts) = move ∷ moves_made acts
 moves_made (Takes ticket ∷ acts) = moves_made acts
+moves_made (Windows window ∷ acts) = moves_made acts
 
 -- what a proxy gets for an advance is accepted
 abbrev pub PlannedAreAccepted : Type 0
@@ -78,19 +83,30 @@ abbrev pub ReadsBelow : Issued → Type 0
 ReadsBelow issued = AllByRecursion (λ (t : Transaction). (t.read < issued.0.version) × NamesWrites t) issued.1
 
 abbrev pub entry_of : Issued → Entry
-entry_of issued = record
-    { version = issued.0.version; prev = issued.0.prev; moves = issued.0.pending; batch = issued.1 }
+entry_of issued = record {
+  version = issued.0.version;
+  prev = issued.0.prev;
+  horizon = issued.0.horizon;
+  moves = issued.0.pending;
+  batch = issued.1;
+}
 
 -- the tickets that are accepted, with their batches
 abbrev pub AreIssued : Sequencer → List Act → List Issued → Type 0
 AreIssued s acts issued = AreTaken s acts × (map (λ (one : Issued). one.0) issued ≡ tickets_in acts)
 
--- batches at tickets that are accepted one after another are entries of a book, after the last version
+-- batches at tickets that are accepted one after another are entries of a book, after the last version, and their
+-- horizons never fall
 abbrev pub TicketsMakeABook : Type 0
 TicketsMakeABook =
     (s : Sequencer) (acts : List Act) (issued : List Issued) → IsSequencer s → AreIssued s acts issued
     → AllByRecursion ReadsBelow issued
-    → AreEntries s.resolvers s.last (map entry_of issued)
+    → AreEntries s.resolvers s.last (map entry_of issued) × HorizonsRise s.horizon (map entry_of issued)
+
+-- the horizon never falls, whatever is done, also where the window grows
+abbrev pub HorizonNeverFalls : Type 0
+HorizonNeverFalls =
+    (s : Sequencer) (acts : List Act) → AreTaken s acts → s.horizon ≤ (fold after s acts).horizon
 
 -- from version 0 on they are a book, where no id is that of two of the transactions
 abbrev pub FirstTicketsAreABook : Type 0
@@ -128,6 +144,12 @@ abbrev pub last_of : ℕ → ℕ → List Ticket → ℕ
 last_of proxy last [] = last
 last_of proxy last (ticket ∷ tickets) = last_of proxy (if ticket.proxy == proxy then ticket.version else last) tickets
 
+-- the horizon of the proxy's last ticket, or the one given where it had none
+abbrev pub last_horizon_of : ℕ → ℕ → List Ticket → ℕ
+last_horizon_of proxy last [] = last
+last_horizon_of proxy last (ticket ∷ tickets) =
+    last_horizon_of proxy (if ticket.proxy == proxy then ticket.horizon else last) tickets
+
 -- the versions rise, up to this one
 abbrev pub AreRisingUpTo : ℕ → List Dated → Type 0
 AreRisingUpTo version [] = ⊤
@@ -140,20 +162,23 @@ abbrev pub GoToResolvers : ℕ → List Dated → Type 0
 GoToResolvers resolvers moves =
     AllByRecursion (λ (of : Dated). AllByRecursion (λ (move : Move). move.to < resolvers) of.moves) moves
 
--- The ticket may be learnt by a proxy whose last ticket was of this version: its version and those of its moves are
--- above that, its moves are of versions that rise up to its own, and they go to resolvers that exist.
-pub record MayBeLearnt (resolvers last : ℕ) (ticket : Ticket) : Type 0 where
+-- The ticket may be learnt by a proxy whose last ticket was of this version, with this horizon: its version and those
+-- of its moves are above that version, its moves are of versions that rise up to its own, they go to resolvers that
+-- exist, and its horizon is no less than that one, and below its version.
+pub record MayBeLearnt (resolvers last floor : ℕ) (ticket : Ticket) : Type 0 where
   pub later : last < ticket.version
   pub above : AllByRecursion (λ (of : Dated). last < of.version) ticket.moves
   pub rising : AreRisingUpTo ticket.version ticket.moves
   pub targets : GoToResolvers resolvers ticket.moves
+  pub horizon : floor ≤ ticket.horizon
+  pub below : ticket.horizon < ticket.version
 
--- every ticket that a sequencer plans may be learnt by its proxy, whose last version is 0 at first
+-- every ticket that a sequencer plans may be learnt by its proxy, whose last version and horizon are 0 at first
 abbrev pub PlannedMayBeLearnt : Type 0
 PlannedMayBeLearnt =
     (proxies resolvers last : ℕ) (acts : List Act) → AreTaken (fresh proxies resolvers last) acts
     → (proxy advance : ℕ) → plan_fault (fold after (fresh proxies resolvers last) acts) proxy advance ≡ None
-    → MayBeLearnt resolvers (last_of proxy 0 (tickets_in acts))
+    → MayBeLearnt resolvers (last_of proxy 0 (tickets_in acts)) (last_horizon_of proxy 0 (tickets_in acts))
     (planned (fold after (fresh proxies resolvers last) acts) proxy advance)
 
 -- what else is done to a sequencer: an act, or a report

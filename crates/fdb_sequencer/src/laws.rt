@@ -3,12 +3,13 @@
 ghost use Rattle.std.specs.Prelude.{◌≡◌};
 ghost use Rattle.std.specs.Bool.{Decides};
 ghost use Rattle.fdb_sequencer.specs.Equality.{ticket_eq};
-ghost use Rattle.fdb_sequencer.specs.Examples.{WorkedVersions, WorkedPlans, WorkedTickets, WorkedMoves, WorkedReports};
-ghost use Rattle.fdb_sequencer.specs.Examples.{WorkedNumbers};
+ghost use Rattle.fdb_sequencer.specs.Examples.{WorkedVersions, WorkedPlans, WorkedTickets, WorkedWindows};
+ghost use Rattle.fdb_sequencer.specs.Examples.{WorkedHorizons, WorkedMoves, WorkedReports, WorkedNumbers};
 ghost use Rattle.fdb_sequencer.specs.TicketLaws.{PlannedAreAccepted, AcceptedArePlanned, AcceptedOnce, IndicesCountUp};
-ghost use Rattle.fdb_sequencer.specs.TicketLaws.{TicketsMakeABook, FirstTicketsAreABook, EachMoveTakesEffectOnce};
-ghost use Rattle.fdb_sequencer.specs.TicketLaws.{EachProxyGetsEachMoveOnce, PlannedMayBeLearnt};
-ghost use Rattle.fdb_sequencer.specs.TicketLaws.{NothingIsCommittedFirst, CommittedIsTheGreatestReported};
+ghost use Rattle.fdb_sequencer.specs.TicketLaws.{TicketsMakeABook, FirstTicketsAreABook, HorizonNeverFalls};
+ghost use Rattle.fdb_sequencer.specs.TicketLaws.{EachMoveTakesEffectOnce, EachProxyGetsEachMoveOnce};
+ghost use Rattle.fdb_sequencer.specs.TicketLaws.{PlannedMayBeLearnt, NothingIsCommittedFirst};
+ghost use Rattle.fdb_sequencer.specs.TicketLaws.{CommittedIsTheGreatestReported};
 
 use crate::ticket::Ticket;
 
@@ -23,19 +24,25 @@ pub fn tickets_are_accepted_exactly_where_they_are_planned()
     ensures accepted { AcceptedArePlanned }
 {}
 
-/// Once a ticket was accepted, no ticket of its index or a lower one ever is, whatever moves are made and whatever
-/// tickets are accepted in between.
+/// Once a ticket was accepted, no ticket of its index or a lower one ever is, whatever moves are made, whatever tickets
+/// are accepted and whatever windows are set in between.
 pub fn tickets_are_accepted_once()
     ensures { AcceptedOnce }
 {}
 
-/// Tickets that are accepted one after another, with moves that are made in between, make a book. Their indices
-/// count up, and batches at them are entries that follow on one another, if each transaction read below its ticket's
-/// version. From version 0 on they are a book, if no two of the transactions have one id.
+/// Tickets that are accepted one after another, with moves that are made and windows that are set in between, make a
+/// book. Their indices count up, and batches at them are entries that follow on one another and whose horizons never
+/// fall, if each transaction read below its ticket's version. From version 0 on they are a book, if no two of the
+/// transactions have one id.
 pub fn accepted_tickets_make_a_book()
     ensures indices { IndicesCountUp }
     ensures entries { TicketsMakeABook }
     ensures book { FirstTicketsAreABook }
+{}
+
+/// The horizon of the last ticket never falls, whatever is done, also where the window grows.
+pub fn the_horizon_never_falls()
+    ensures { HorizonNeverFalls }
 {}
 
 /// Each move takes effect once, with the first ticket that is accepted after it was made. Each proxy is told each
@@ -46,8 +53,8 @@ pub fn each_proxy_gets_each_move_once()
 {}
 
 /// Every ticket that a sequencer plans may be learnt by its proxy: its version and those of its moves are above the
-/// version of the proxy's last ticket, the versions of its moves rise up to its own, and the moves go to resolvers
-/// that exist.
+/// version of the proxy's last ticket, the versions of its moves rise up to its own, the moves go to resolvers that
+/// exist, and its horizon is no less than that of the proxy's last ticket, and below its version.
 pub fn planned_tickets_may_be_learnt()
     ensures { PlannedMayBeLearnt }
 {}
@@ -58,11 +65,14 @@ pub fn the_greatest_reported_version_is_committed()
     ensures greatest { CommittedIsTheGreatestReported }
 {}
 
-/// Which versions tickets have, and why calls are refused, by examples: each limit, and which refusal comes first.
+/// Which versions and horizons tickets have, and why calls are refused, by examples: each limit, and which refusal
+/// comes first.
 pub fn worked_refusals()
     ensures versions { WorkedVersions }
     ensures plans { WorkedPlans }
     ensures tickets { WorkedTickets }
+    ensures windows { WorkedWindows }
+    ensures horizons { WorkedHorizons }
     ensures moves { WorkedMoves }
     ensures reports { WorkedReports }
     ensures numbers { WorkedNumbers }

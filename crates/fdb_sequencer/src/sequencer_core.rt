@@ -3,6 +3,7 @@ use crate::ticket::Ticket;
 use fdb_keys::Refusal;
 use fdb_txn::{
     GREATEST_ADVANCE, MOVE_LIMIT, Move, PROXY_LIMIT, RESOLVER_LIMIT, TICKET_LIMIT, VERSION_LIMIT,
+    WINDOW,
 };
 use std::alloc::Global;
 use std::marker::Model;
@@ -12,7 +13,7 @@ use std::marker::Model;
 ///
 /// A ticket is planned first, which changes nothing, and then accepted. Of the tickets that were planned in
 /// between two that are accepted, one is accepted, and the others are stale from then on. So are those that were
-/// planned before a move.
+/// planned before a move, or before the window was set anew where that makes another horizon.
 #[derive(Drop)]
 pub struct SequencerCore {
     proxies: u32,
@@ -20,6 +21,10 @@ pub struct SequencerCore {
     accepted: u64,
     last: u64,
     committed: u64,
+    // the window of the tickets to come
+    window: u64,
+    // the horizon of the last ticket that was accepted
+    horizon: u64,
     moves: Moves,
     // how many moves were made
     made: u32,
@@ -42,10 +47,11 @@ impl SequencerCore {
     ghost use Rattle.fdb_keys.specs.Answers.{Answers, AnswersExactly};
     ghost use Rattle.fdb_sequencer.specs.Sequencer.{IsSequencer, new_fault, fresh, plan_fault, planned, is_planned};
     ghost use Rattle.fdb_sequencer.specs.Sequencer.{accept_fault, accepting, move_fault, moving, report_fault};
-    ghost use Rattle.fdb_sequencer.specs.Sequencer.{reporting};
+    ghost use Rattle.fdb_sequencer.specs.Sequencer.{set_window_fault, windowing, reporting};
+    ghost use Rattle.fdb_txn.specs.book.Book.{next_horizon};
 
     /// The sequencer of a database whose last version is `last`, which is 0 at first. No ticket was accepted,
-    /// no version reported and no move made yet.
+    /// no version reported, no move made and no window set yet. The window is 5,000,000 at first, the greatest one.
     ///
     /// Refused as `BadConfig` unless there are 1 to 16 commit proxies and 1 to 64 resolvers, and the last
     /// version is at most 2^62, and as `NoMemory`.
@@ -65,6 +71,8 @@ impl SequencerCore {
             accepted: 0,
             last,
             committed: 0,
+            window: WINDOW,
+            horizon: 0,
             moves: Moves::new(alloc, proxies)?,
             made: 0,
         })
@@ -72,8 +80,9 @@ impl SequencerCore {
 
     /// The ticket that the proxy's next batch would get now. Its index is the number of tickets that were
     /// accepted, its previous version is the last one, and its version is `advance` above that, but at least 1
-    /// and at most 5,000,000. The moves since the last ticket that was accepted take effect at that version, and
-    /// the proxy gets them after all others that it hasn't had. It changes nothing. It takes O(1) for each version
+    /// and at most 5,000,000. Its horizon is the version less the window, or the horizon of the last ticket that was
+    /// accepted where that is greater. The moves since that ticket take effect at the version, and the proxy gets them
+    /// after all others that it hasn't had. It changes nothing. It takes O(1) for each version
     /// whose moves the proxy hasn't had: no move is copied.
     ///
     /// Refused as `BadConfig` where no proxy has the number, and then as `Exhausted` where the version would
@@ -94,9 +103,17 @@ impl SequencerCore {
             index: self.accepted as u32,
             version,
             prev: self.last,
+            horizon: self.next_horizon(version),
             moves: self.moves.moves_at(proxy, version)?,
             pending: self.moves.share_pending()?,
         })
+    }
+
+    // The horizon of a next ticket of the version.
+    fn next_horizon(&self, version: u64) -> u64
+        ensures { result ≡ next_horizon self.now.horizon self.now.window version }
+    {
+        self.horizon.max(version.saturating_sub(self.window))
     }
 
     /// Accepts a ticket: its version is the last one from then on, its pending moves take effect at it, and its proxy
@@ -114,6 +131,7 @@ impl SequencerCore {
         }
         self.accepted += 1;
         self.last = ticket.version;
+        self.horizon = ticket.horizon;
         self.moves.hand_out(ticket.proxy, ticket.version);
         Ok(())
     }
@@ -128,6 +146,7 @@ impl SequencerCore {
             && ticket.version > self.last
             && ticket.version <= self.last + GREATEST_ADVANCE
             && ticket.version <= VERSION_LIMIT
+            && ticket.horizon == self.next_horizon(ticket.version)
             && self
                 .moves
                 .are_moves_at(ticket.moves.as_slice(), ticket.proxy, ticket.version)
@@ -151,6 +170,21 @@ impl SequencerCore {
         }
         self.moves.add(one_move)?;
         self.made += 1;
+        Ok(())
+    }
+
+    /// Sets the window, by which the horizon of the next ticket and of later ones is made. A horizon never falls, also
+    /// where the window grows. It takes no memory.
+    ///
+    /// Refused as `BadConfig` unless the window is 1 to 5,000,000, and then nothing changes.
+    pub fn set_window(&mut self, window: u64) -> Result<(), Refusal>
+        ensures answers { AnswersExactly result (set_window_fault window) (λ _. self.new ≡ windowing self.old window) }
+        ensures err { OnErr result (self.new ≡ self.old) }
+    {
+        if !(1..=WINDOW).contains(&window) {
+            return Err(Refusal::BadConfig);
+        }
+        self.window = window;
         Ok(())
     }
 

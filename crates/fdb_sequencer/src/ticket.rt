@@ -13,6 +13,8 @@ pub struct Ticket {
     pub version: u64,
     /// The version of the entry before it.
     pub prev: u64,
+    /// The horizon of the entry: its transactions that read below it are old.
+    pub horizon: u64,
     /// All moves that the proxy hasn't had, each list with its entry's version, the pending ones among them
     /// under the ticket's version.
     pub moves: Items<Dated>,

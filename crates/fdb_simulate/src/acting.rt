@@ -12,6 +12,9 @@ use fdb_sections::{
 use fdb_txn::{Move, Sealed, WINDOW};
 use std::alloc::{AllocError, Global};
 
+// A small window has the versions of so many entries at most.
+const FEW_ENTRIES: u32 = 4;
+
 // The key has the number from now on. Refused as `NoMemory`.
 fn set_to(alloc: Global, key: &Key, number: u64) -> Result<Mutation, Refusal> {
     let value = Bytes::copy_from_slice(alloc, &number.to_le_bytes())?;
@@ -161,9 +164,17 @@ impl<B: ClusterName> Sim<B> {
         }
     }
 
-    // Keys between two that are drawn are moved, now and then.
+    // The sequencer makes a move, or gets another window, now and then.
     fn act_sequencer(&mut self) {
-        let is_due = self.draw(8) == 0;
+        match self.draw(16) {
+            0 | 1 => self.move_keys(),
+            2 => self.set_window(),
+            _ => {}
+        }
+    }
+
+    // The keys between two that are drawn go over to a resolver that is drawn.
+    fn move_keys(&mut self) {
         let count = count_of(self.keys.len());
         let first = self.draw(count);
         let count = count_of(self.keys.len());
@@ -174,12 +185,22 @@ impl<B: ClusterName> Sim<B> {
         else {
             return;
         };
-        if !is_due {
-            return;
-        }
         if let Ok(range) = KeyRange::new(self.alloc, begin.bytes(), end.bytes()) {
             let _ = self.roles.sequencer.move_to(Move { range, to });
         }
+    }
+
+    // The window has few entries from the next one on, or is the greatest one.
+    fn set_window(&mut self) {
+        let is_greatest = self.draw(2) == 0;
+        let entries = self.draw(FEW_ENTRIES).saturating_add(1);
+        let small = self.advance.saturating_mul(u64::from(entries));
+        let window = if is_greatest {
+            WINDOW
+        } else {
+            small.min(WINDOW)
+        };
+        let _ = self.roles.sequencer.set_window(window);
     }
 
     /// A client does what it does next.
@@ -301,7 +322,8 @@ impl<B: ClusterName> Sim<B> {
         self.end_read(number, version, read);
     }
 
-    // It goes on to write, or begins anew where it was refused. A version that isn't too old isn't forgotten.
+    // It goes on to write, or begins anew where it was refused. A version that lies in the greatest window
+    // isn't forgotten.
     fn end_read(&mut self, number: u32, version: u64, read: Result<(), Refusal>) {
         match read {
             Ok(()) => self.wish(number, Wish::Write),

@@ -26,7 +26,7 @@ const SHARDS: u32 = 3;
 // How many keys there are at least.
 const LEAST_KEYS: u32 = 8;
 
-// How far versions are apart in most plans, of which 5,000 lie in the window, and in some, of which 2 do.
+// How far versions are apart in most plans, of which 5,000 lie in the greatest window, and in some, of which 2 do.
 const NEAR: u64 = 1_000;
 
 const FAR: u64 = WINDOW / 2;
@@ -64,7 +64,7 @@ fn keys_of(asked: &Simulation) -> u8 {
 }
 
 // What is drawn: in every second plan that a role fails, in every third that the database is closed, and in every
-// fourth that versions are so far apart that few lie in the window.
+// fourth that versions are so far apart that few lie in the greatest window.
 fn plan_of(asked: &Simulation, random: &mut Pcg32) -> Plan {
     let fails_at = step_in(random, 2, asked.steps);
     let closes_at = step_in(random, 3, asked.steps);

@@ -19,54 +19,58 @@ use std::thread::Threads;
 type Told = (u32, u64, Option<usize>);
 
 // An append: the front that it is made to, by its number among those that were handed out before, of which 0 is the
-// empty one; the entry's version, its previous version and its transactions' read version; the session and the number
-// of each of these, none of which writes; what is told.
-type Append = (usize, [u64; 3], &'static [(u32, u64)], Told);
+// empty one; the entry's version, its previous version, its transactions' read version and its horizon; the session and
+// the number of each of these, none of which writes; what is told.
+type Append = (usize, [u64; 4], &'static [(u32, u64)], Told);
 
 // A front by its number: its version, the appends whose entries it shows by theirs, and how it agrees with another one.
 type Shown = (usize, u64, &'static [usize], (usize, Ordering));
 
 const OF_TWO: [Append; 9] = [
-    (0, [100, 0, 0], &[(0, 0)], (0, 0, Some(1))),
+    (0, [100, 0, 0, 0], &[(0, 0)], (0, 0, Some(1))),
     // It doesn't follow on the front.
-    (1, [200, 50, 100], &[(0, 1)], (9010, 0, None)),
-    (1, [200, 100, 100], &[(0, 0)], (9007, 0, None)),
+    (1, [200, 50, 100, 0], &[(0, 1)], (9010, 0, None)),
+    (1, [200, 100, 100, 0], &[(0, 0)], (9007, 0, None)),
     // Its read version isn't below its own.
-    (1, [200, 100, 200], &[(0, 1)], (9010, 0, None)),
+    (1, [200, 100, 200, 0], &[(0, 1)], (9010, 0, None)),
     // Another entry stands in the cell, and then an equal one.
-    (0, [100, 0, 0], &[(0, 1)], (9011, 0, Some(1))),
-    (0, [100, 0, 0], &[(0, 0)], (0, 0, Some(1))),
-    (1, [200, 100, 100], &[(0, 1)], (0, 0, Some(2))),
+    (0, [100, 0, 0, 0], &[(0, 1)], (9011, 0, Some(1))),
+    (0, [100, 0, 0, 0], &[(0, 0)], (0, 0, Some(1))),
+    (1, [200, 100, 100, 0], &[(0, 1)], (0, 0, Some(2))),
     // The book is full, which is told after what is wrong with the entry.
-    (4, [300, 200, 200], &[(0, 2)], (9006, 0, None)),
-    (4, [300, 200, 200], &[(0, 0)], (9007, 0, None)),
+    (4, [300, 200, 200, 0], &[(0, 2)], (9006, 0, None)),
+    (4, [300, 200, 200, 0], &[(0, 0)], (9007, 0, None)),
 ];
 
 // The right entry is appended after refusals.
 const AFTER_REFUSALS: [Append; 4] = [
-    (0, [100, 0, 0], &[(7, 3), (7, 3)], (9007, 1, None)),
-    (0, [100, 0, 0], &[], (0, 0, Some(1))),
-    (0, [100, 0, 0], &[(0, 0)], (9011, 0, Some(1))),
-    (2, [200, 100, 100], &[(0, 0)], (0, 0, Some(2))),
+    (0, [100, 0, 0, 0], &[(7, 3), (7, 3)], (9007, 1, None)),
+    (0, [100, 0, 0, 0], &[], (0, 0, Some(1))),
+    (0, [100, 0, 0, 0], &[(0, 0)], (9011, 0, Some(1))),
+    (2, [200, 100, 100, 0], &[(0, 0)], (0, 0, Some(2))),
 ];
 
 // Appends to one front of a book of three, which goes on by those that aren't refused: the entry's version, its
-// previous version and its read version; the ids; the refusal's numbers, zeros where there is none; how many entries
-// the front shows then.
-type GoneOn = ([u64; 3], &'static [(u32, u64)], (u32, u64), usize);
+// previous version, its read version and its horizon; the ids; the refusal's numbers, zeros where there is none; how
+// many entries the front shows then.
+type GoneOn = ([u64; 4], &'static [(u32, u64)], (u32, u64), usize);
 
 const ONE_FRONT: &[GoneOn] = &[
-    ([100, 0, 0], &[(0, 4), (1, 0)], (0, 0), 1),
-    ([200, 0, 100], &[(0, 5)], (9010, 0), 1),
-    ([200, 100, 100], &[(2, 0), (1, 0)], (9007, 1), 1),
+    ([100, 0, 0, 0], &[(0, 4), (1, 0)], (0, 0), 1),
+    ([200, 0, 100, 0], &[(0, 5)], (9010, 0), 1),
+    ([200, 100, 100, 0], &[(2, 0), (1, 0)], (9007, 1), 1),
+    // The horizon isn't below the version.
+    ([200, 100, 100, 200], &[(2, 0)], (9010, 0), 1),
     // The other id of the refused entry isn't there yet.
-    ([200, 100, 100], &[(2, 0)], (0, 0), 2),
-    ([300, 200, 200], &[(3, 1), (3, 1)], (9007, 1), 2),
+    ([200, 100, 100, 199], &[(2, 0)], (0, 0), 2),
+    // The horizon falls.
+    ([300, 200, 200, 198], &[(0, 3), (1, 1)], (9010, 0), 2),
+    ([300, 200, 200, 199], &[(3, 1), (3, 1)], (9007, 1), 2),
     // A lesser number of a session is as good as a greater one, where it isn't there yet.
-    ([300, 200, 200], &[(0, 3), (1, 1)], (0, 0), 3),
-    ([400, 300, 300], &[(4, 0)], (9006, 0), 3),
-    ([400, 300, 300], &[(0, 3)], (9007, 0), 3),
-    ([400, 200, 300], &[(4, 0)], (9010, 0), 3),
+    ([300, 200, 200, 199], &[(0, 3), (1, 1)], (0, 0), 3),
+    ([400, 300, 300, 199], &[(4, 0)], (9006, 0), 3),
+    ([400, 300, 300, 199], &[(0, 3)], (9007, 0), 3),
+    ([400, 200, 300, 199], &[(4, 0)], (9010, 0), 3),
 ];
 
 const CAPACITIES: &[(u32, u32)] = &[(0, 9009), (1, 0), (1_048_577, 9009)];
@@ -90,9 +94,10 @@ const BOOKS: &[(&[Append], &[Shown])] = &[
     ),
 ];
 
-// The entry of a version, a previous version and a read version, with a transaction without a write for each id.
-fn entry_of(alloc: Global, numbers: [u64; 3], ids: &[(u32, u64)]) -> Result<Entry, Refusal> {
-    let [version, prev, read_version] = numbers;
+// The entry of a version, a previous version, a read version and a horizon, with a transaction without a write for each
+// id.
+fn entry_of(alloc: Global, numbers: [u64; 4], ids: &[(u32, u64)]) -> Result<Entry, Refusal> {
+    let [version, prev, read_version, horizon] = numbers;
     let mut places = Items::new(alloc);
     for (session, number) in ids {
         let id = TxnId {
@@ -112,6 +117,7 @@ fn entry_of(alloc: Global, numbers: [u64; 3], ids: &[(u32, u64)]) -> Result<Entr
     Ok(Entry {
         version,
         prev,
+        horizon,
         moves: shared(alloc, Items::new(alloc))?,
         batch: Batch::new(places),
     })
@@ -364,7 +370,7 @@ fn go_on<B: BookName>(
         alloc,
         book,
         front,
-        entry_of(alloc, [prev + 100, prev, prev], &ids)?,
+        entry_of(alloc, [prev + 100, prev, prev, 0], &ids)?,
     ) {
         Ok(longer) => Ok(longer),
         Err(refused) => front_found(book, refused.back).ok_or(refused.why),

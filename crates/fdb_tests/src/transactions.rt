@@ -136,6 +136,7 @@ fn entry(alloc: Global, version: u64, to: u32) -> Result<Entry, Refusal> {
     Ok(Entry {
         version,
         prev: 0,
+        horizon: 0,
         moves,
         batch,
     })

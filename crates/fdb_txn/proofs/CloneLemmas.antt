@@ -28,5 +28,11 @@ same_batch a b copied =
 
 pub same_entry : (a b : Entry) → (of_entries.ghosts).is_clone a b → b ≡ a
 same_entry a b copied =
-    let batch = same_batch a.batch b.batch copied.1.1.1 in
-    λ i. record { version = copied.0 i; prev = copied.1.0 i; moves = copied.1.1.0 i; batch = batch i }
+    let batch = same_batch a.batch b.batch copied.1.1.1.1 in
+    λ i. record {
+      version = copied.0 i;
+      prev = copied.1.0 i;
+      horizon = copied.1.1.0 i;
+      moves = copied.1.1.1.0 i;
+      batch = batch i;
+    }

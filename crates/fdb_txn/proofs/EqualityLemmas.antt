@@ -83,16 +83,25 @@ entry_eq_decides a b =
     let parts =
     Decides-and _ _ (Decides-eqb a.version b.version)
     (Decides-and _ _ (Decides-eqb a.prev b.prev)
-    (Decides-and _ _ (items_eq_decides move_eq move_eq_decides a.moves b.moves) (batch_eq_decides a.batch b.batch)))
+    (Decides-and _ _ (Decides-eqb a.horizon b.horizon)
+    (Decides-and _ _ (items_eq_decides move_eq move_eq_decides a.moves b.moves) (batch_eq_decides a.batch b.batch))))
     in (
-      λ equal. let same = parts.0 equal in λ i. record
-          { version = same.0 i; prev = same.1.0 i; moves = same.1.1.0 i; batch = same.1.1.1 i },
+      λ equal. let same = parts.0 equal in λ i. record {
+        version = same.0 i;
+        prev = same.1.0 i;
+        horizon = same.1.1.0 i;
+        moves = same.1.1.1.0 i;
+        batch = same.1.1.1.1 i;
+      },
       λ same.
           parts.1 (
             ap (λ (entry : Entry). entry.version) same,
             (
               ap (λ (entry : Entry). entry.prev) same,
-              (ap (λ (entry : Entry). entry.moves) same, ap (λ (entry : Entry). entry.batch) same),
+              (
+                ap (λ (entry : Entry). entry.horizon) same,
+                (ap (λ (entry : Entry). entry.moves) same, ap (λ (entry : Entry). entry.batch) same),
+              ),
             ),
           ),
     )

@@ -4,7 +4,8 @@ pub use Rattle.fdb_txn.proofs.EqualityLemmas.{entry_eq_decides, move_eq_decides,
 pub use Rattle.fdb_txn.proofs.NumberMaps.{at_number, get-pairs, one_put, same_maps}
 pub use Rattle.fdb_txn.proofs.VersionsLemmas.{count-alike, count-around, count-steady, one_if}
 pub use Rattle.fdb_txn.proofs.book.HistoryLemmas.{AtMost, add_places-newer, books_are_entries}
-pub use Rattle.fdb_txn.proofs.book.HistoryLemmas.{earlier_maps_stay, entries_go_on, places_are_found_in_the_book}
+pub use Rattle.fdb_txn.proofs.book.HistoryLemmas.{earlier_maps_stay, entries_go_on, horizons_part}
+pub use Rattle.fdb_txn.proofs.book.HistoryLemmas.{places_are_found_in_the_book}
 pub use Rattle.fdb_txn.proofs.book.HistoryLemmas.{places_are_history, seen_of-push, up_to-above, up_to-all}
 pub use Rattle.fdb_txn.proofs.rules.AskedLemmas.{committed_by_the_asked, old_is_asked, owner-exists, point_of-set}
 pub use Rattle.fdb_txn.proofs.rules.AskedLemmas.{points_from-in_set}

@@ -13,6 +13,10 @@ place_limit = 4096
 abbrev pub book_limit : ℕ
 book_limit = 1048576
 
+-- the window at first, and the greatest one: reads that are older than the window are no longer judged
+abbrev pub window : ℕ
+window = 5000000
+
 -- the most versions from a ticket to the next
 abbrev pub greatest_advance : ℕ
 greatest_advance = 5000000

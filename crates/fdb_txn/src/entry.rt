@@ -35,6 +35,9 @@ pub struct Entry {
     pub version: u64,
     /// The version of the entry before it, 0 where it is the first.
     pub prev: u64,
+    /// The horizon of the entry: its transactions that read below it are old. It never falls from entry to entry, and
+    /// lies below the entry's version.
+    pub horizon: u64,
     /// The moves that take effect at the entry's version, the earliest one first. Copies of the entry share them.
     pub moves: SharedList<Move>,
     /// The transactions, at places counted from 0.

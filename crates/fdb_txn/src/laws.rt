@@ -4,12 +4,11 @@ ghost use Rattle.std.specs.Prelude.{◌≡◌};
 ghost use Rattle.std.specs.Bool.{Decides};
 ghost use Rattle.fdb_txn.specs.Equality.{txn_id_eq, spot_eq, move_eq, entry_eq, batch_eq, sealed_eq};
 ghost use Rattle.fdb_txn.specs.declared.limits.TheConstants.{PLACE_LIMIT, RESOLVER_LIMIT, WINDOW};
-ghost use Rattle.fdb_txn.specs.Limits.{place_limit, resolver_limit};
-ghost use Rattle.fdb_txn.specs.rules.Owners.{window};
+ghost use Rattle.fdb_txn.specs.Limits.{place_limit, resolver_limit, window};
 ghost use Rattle.fdb_txn.specs.laws.Examples.{LimitNumbers};
 ghost use Rattle.fdb_txn.specs.laws.Examples.{Sizes, OneBatch, WriteSkew, FalseConflict, FormerOwner, ThereAndBack};
 ghost use Rattle.fdb_txn.specs.laws.Examples.{EqualIsNotNewer, Window, OldReading, TwoMoves, Spans, AtBounds};
-ghost use Rattle.fdb_txn.specs.laws.Examples.{ShardMessages, Entries, Books};
+ghost use Rattle.fdb_txn.specs.laws.Examples.{ShardMessages, Entries, Books, Numbers, Horizon, Horizons};
 ghost use Rattle.fdb_txn.specs.laws.AdmissionLaws.{OverlapsAtSomePoint, AskedAtSomePoint, OwnedAtSomeVersion};
 ghost use Rattle.fdb_txn.specs.laws.AdmissionLaws.{AdmitsWithoutConflict, CommittedByTheAsked, OldIsAsked};
 ghost use Rattle.fdb_txn.specs.laws.ResolverLaws.{AskedWhereItHasAPart, LastVersionsDecide, OnePlaceMore, StateDecides};
@@ -19,6 +18,7 @@ ghost use Rattle.fdb_txn.specs.rules.Messages.{MeetsAtSomePoint, MessagesAreForT
 ghost use Rattle.fdb_txn.specs.rules.Messages.{MessagesGoOn, ShardsGoOn};
 ghost use Rattle.fdb_txn.specs.laws.SerialMapLaws.{BooksAreEntries, PlacesAreHistory, PlacesAreFoundInTheBook};
 ghost use Rattle.fdb_txn.specs.laws.SerialMapLaws.{ReadsStand, EarlierPlacesStay, EarlierMapsStay, EntriesGoOn};
+ghost use Rattle.fdb_txn.specs.laws.SerialMapLaws.{HorizonsPart};
 
 use crate::batch::Batch;
 use crate::entry::{Entry, Move};
@@ -26,8 +26,8 @@ use crate::sealed::Sealed;
 use crate::spot::Spot;
 use crate::txn_id::TxnId;
 
-/// The most places of a batch, the most resolvers and the window of reads are those of the definitions. What a role
-/// refuses pins the other limits.
+/// The most places of a batch, the most resolvers and the first window of reads are those of the definitions. What a
+/// role refuses pins the other limits.
 pub fn limits_are_those_of_the_definitions()
     ensures places { PLACE_LIMIT ≡ place_limit }
     ensures resolvers { RESOLVER_LIMIT ≡ resolver_limit }
@@ -110,7 +110,7 @@ pub fn one_place_more_is_one_step()
     ensures { OnePlaceMore }
 {}
 
-/// A resolver that has only its part of each place, and has forgotten what is below the window, decides as
+/// A resolver that has only its part of each place, and has forgotten what is below the horizon, decides as
 /// the rule does, takes each place in, and may go on forgetting.
 pub fn a_resolver_with_its_part_alone_answers_the_rule_and_keeps_its_state()
     ensures decides { StateDecides }
@@ -119,7 +119,8 @@ pub fn a_resolver_with_its_part_alone_answers_the_rule_and_keeps_its_state()
     ensures forgotten { ForgottenAgree }
 {}
 
-/// A book of sealed transactions is a list of entries from version 0 on that has no id twice.
+/// A book of sealed transactions is a list of entries from version 0 on that has no id twice, and whose horizons never
+/// fall.
 pub fn books_are_entries()
     ensures { BooksAreEntries }
 {}
@@ -143,11 +144,13 @@ pub fn reads_of_committed_transactions_stand()
 
 /// With one more entry the earlier places of a book stay as they were, after new ones of the entry's
 /// version, and so does the map at each version below the entry's. A book stays one with an entry that
-/// may stand after its last.
+/// may stand after its last. Horizons never fall exactly where they don't among the first entries, and then among those
+/// after these.
 pub fn one_more_entry_changes_nothing_earlier()
     ensures places { EarlierPlacesStay }
     ensures maps { EarlierMapsStay }
     ensures entries { EntriesGoOn }
+    ensures horizons { HorizonsPart }
 {}
 
 /// A mutation meets a shard's range exactly where it names some point of it, and a shard's messages have no
@@ -163,7 +166,8 @@ pub fn messages_of_a_shard_leave_the_serial_map_on_its_range()
 
 /// What the rules say of each transaction of some small books: which resolvers are asked about it, which
 /// admit it, whether it is old, and whether it is committed; what shards are sent of it; which entries may
-/// stand in a book, and which lists of them are books; and how many bytes transactions have.
+/// stand in a book, and which lists of them are books; how places are numbered; what the horizon of an entry is; and
+/// how many bytes transactions have.
 pub fn worked_examples()
     ensures sizes { Sizes }
     ensures one_batch { OneBatch }
@@ -180,6 +184,9 @@ pub fn worked_examples()
     ensures shard_messages { ShardMessages }
     ensures entries { Entries }
     ensures books { Books }
+    ensures numbers { Numbers }
+    ensures horizon { Horizon }
+    ensures horizons { Horizons }
 {}
 
 /// The number of each limit.

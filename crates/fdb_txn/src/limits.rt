@@ -10,7 +10,8 @@ pub const PLACE_LIMIT: usize = 4_096;
 /// The most entries that a book may have.
 pub const BOOK_LIMIT: u32 = 1_048_576;
 
-/// Reads that are older than this many versions are no longer judged.
+/// Reads that are older than the window are no longer judged. This many versions is the window at first, and the
+/// greatest one. The least is one.
 pub const WINDOW: u64 = 5_000_000;
 
 /// The most versions that one ticket may advance. The least is one.

@@ -1,5 +1,5 @@
 -- One more entry in the book, and what stays tied.
-use Rattle.std.proofs.Common.{◌≡◌, ◌∙◌, sym, ap, ap₂, subst, ⊎_elim, ℕ, suc, ◌<◌, le_of_lt, Bool, false, List, []}
+use Rattle.std.proofs.Common.{◌≡◌, ◌∙◌, sym, ap, ap₂, subst, ⊎_elim, ℕ, suc, ◌<◌, le_of_lt, Bool, false, List, [], ◌≤◌}
 use Rattle.std.proofs.Common.{◌∷◌, ◌++◌, length, Option, Some, None, unwrap_or, if◌then◌else◌, arith}
 use Rattle.std.specs.List.{slice_get}
 use Rattle.std.specs.FinMap.{get}
@@ -8,9 +8,9 @@ use Rattle.std.proofs.lemmas.Bool.{cases_lt}
 use Rattle.std.proofs.lemmas.List.{length-append, take-append-le}
 use Rattle.fdb_keys.specs.Points.{Point}
 use Rattle.fdb_txn.specs.declared.entry.Entry.{Entry}
-use Rattle.fdb_txn.specs.book.Book.{seen_of, last_version, seen_before}
+use Rattle.fdb_txn.specs.book.Book.{seen_of, last_version, seen_before, last_horizon}
 use Rattle.fdb_txn.specs.book.History.{AreEntries}
-use Rattle.fdb_txn.proofs.Exports.{entries_go_on}
+use Rattle.fdb_txn.proofs.Exports.{entries_go_on, horizons_part}
 use Rattle.fdb_log.specs.declared.message.LogMsg.{LogMsg}
 use Rattle.fdb_log.specs.Logs.{popped_through}
 use Rattle.fdb_log.specs.Messages.{above}
@@ -24,7 +24,7 @@ use Rattle.fdb_core.specs.declared.roles.resolver.ResolverRole.{ResolverRole}
 use Rattle.fdb_core.specs.declared.roles.shard.ShardRole.{ShardRole}
 use Rattle.fdb_machine.specs.machine.Machine.{is_set}
 use Rattle.fdb_core.specs.refinement.Cluster.{BookRefines, messages_on}
-use Rattle.fdb_roles.specs.ProxyStages.{ArePartsOf}
+use Rattle.fdb_roles.specs.ProxyStages.{ArePartsOf, position_in}
 use Rattle.fdb_core.specs.refinement.log.Ties.{LogRefines, ShardRefines, LogsRefine}
 use Rattle.fdb_core.specs.refinement.resolver.Resolving.{ResolverRefines, ResolversRefine, PartsRefine}
 use Rattle.fdb_roles.specs.AtBook.{IsResolverAt}
@@ -58,7 +58,7 @@ module _ (book : List Entry) (entry : Entry) where
       at-front i other of early its = subst
           (λ (before : Rattle.fdb_txn.specs.book.Book.Seen). Rattle.fdb_proxy.specs.Parting.AreParts splits
           (Rattle.fdb_proxy.specs.Verdicts.moves_through before other)
-          (record { index = i; version = other.version; prev = other.prev }) other.batch of)
+          (position_in i other) other.batch of)
           (sym (seen-front book (entry ∷ []) i (le_of_lt early))) its
 
       at-end : (i : ℕ) (other : Entry) (of : List Part) → i ≡ length book → entry ≡ other → given ≡ of
@@ -140,9 +140,10 @@ module _ (book : List Entry) (entry : Entry) where
       (messages : List (Option (List LogMsg))) (proxy : ℕ)
       → BookRefines config book entry_proxies decided messages
       → AreEntries (suc (length config.resolver_splits)) (last_version book) (entry ∷ [])
+      → last_horizon book ≤ entry.horizon
       → BookRefines config (book ++ entry ∷ []) (entry_proxies ++ proxy ∷ []) (decided ++ false ∷ [])
       (messages ++ None ∷ [])
-  book-push config entry_proxies decided messages proxy ok next = record {
+  book-push config entry_proxies decided messages proxy ok next rises = record {
     entries = entries_go_on (suc (length config.resolver_splits)) 0 book entry ok.entries next;
     each_has_proxy = omega
         (arith, length-append entry_proxies (proxy ∷ []), length-append book (entry ∷ []), ok.each_has_proxy);
@@ -167,6 +168,7 @@ module _ (book : List Entry) (entry : Entry) where
         else None)) (sym (ap (is_set (decided ++ false ∷ [])) flags_end
         ∙ ap (λ (flag : Option Bool). unwrap_or flag false) (last-at decided false))))
         (cases_lt i (length book));
+    horizons = (horizons_part 0 book (entry ∷ [])).1 (ok.horizons, (rises, tt));
   }
     where
       flag-front : (i : ℕ) → i < length decided → is_set (decided ++ false ∷ []) i ≡ is_set decided i

@@ -81,6 +81,8 @@ roles_keep k tied = (have_failed, sequencer, resolvers, parts, messages, logs, r
           ok.committed,
           refl,
           unlearnt,
+          refl,
+          ok.horizon,
         )
       where
         unlearnt : (proxy : ℕ) → proxy < k.config.proxies

@@ -136,6 +136,8 @@ sequencer-start config proxies resolvers all_proxies all_resolvers = record {
   count = length-replicate proxies [] ∙ all_proxies;
   targets = tt;
   made = refl;
+  horizon = refl;
+  window = omega arith;
 }
 
 -- a commit proxy of a new state, at which nobody waits

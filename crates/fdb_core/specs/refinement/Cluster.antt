@@ -4,8 +4,8 @@ use Rattle.std.specs.Prelude.{if◌then◌else◌, suc}
 use Rattle.std.specs.List.{AllByRecursion}
 use Rattle.fdb_txn.specs.declared.entry.Entry.{Entry}
 use Rattle.fdb_txn.specs.declared.entry.Move.{Move}
-use Rattle.fdb_txn.specs.book.History.{AreEntries}
-use Rattle.fdb_txn.specs.book.Book.{Seen, last_version, seen_before}
+use Rattle.fdb_txn.specs.book.History.{AreEntries, HorizonsRise}
+use Rattle.fdb_txn.specs.book.Book.{Seen, last_version, last_horizon, seen_before}
 use Rattle.fdb_sequencer.specs.Sequencer.{Sequencer}
 use Rattle.fdb_log.specs.declared.message.LogMsg.{LogMsg}
 use Rattle.fdb_storage.specs.LogMessages.{log_messages}
@@ -34,6 +34,7 @@ machine_of k =
       entry_proxies = k.entry_proxies.items;
       decided = k.decided.items;
       pending = k.sequencer.pending;
+      window = k.sequencer.window;
       commit_proxies = map seen_as k.commit_proxies.items;
       resolvers = taken_by k.resolvers.items;
       logs = logs_taken k.logs.items;
@@ -59,6 +60,7 @@ pub record BookRefines (config : Config) (book : List Entry) (entry_proxies : Li
   pub made : (i : ℕ) (entry : Entry) → slice_get book i ≡ Some entry
       → slice_get messages i
       ≡ Some (if is_set decided i then Some (messages_on config i (seen_before book i) entry) else None)
+  pub horizons : HorizonsRise 0 book
 
 -- the sequencer gave each entry its ticket
 pub record SequencerRefines (config : Config) (book : List Entry) (sequencer : Sequencer) : Type 0 where
@@ -70,6 +72,8 @@ pub record SequencerRefines (config : Config) (book : List Entry) (sequencer : S
   pub count : length sequencer.unlearnt ≡ config.proxies
   pub targets : AllByRecursion (λ (move : Move). move.to < sequencer.resolvers) sequencer.pending
   pub made : sequencer.made ≡ moves_in book + length sequencer.pending
+  pub horizon : sequencer.horizon ≡ last_horizon book
+  pub window : 1 ≤ sequencer.window
 
 -- the commit proxies, of which there are as many as the configuration says
 pub record CommitProxiesRefine (config : Config) (book : List Entry)

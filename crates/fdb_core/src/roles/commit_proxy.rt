@@ -51,7 +51,7 @@ impl CommitProxyRole {
     ghost use Rattle.fdb_keys.specs.declared.refusal.Refusal.TheVariants.{Stale, WrongState};
     ghost use Rattle.fdb_txn.specs.Limits.{place_limit};
     ghost use Rattle.fdb_txn.specs.book.Book.{seen_before, last_version};
-    ghost use Rattle.fdb_txn.specs.book.History.{AreEntries};
+    ghost use Rattle.fdb_txn.specs.book.History.{AreEntries, HorizonsRise};
     ghost use Rattle.fdb_txn.specs.declared.entry.Entry.{Entry};
     ghost use Rattle.fdb_storage.specs.LogMessages.{log_messages};
     ghost use Rattle.fdb_proxy.specs.declared.config.Config.{Config};
@@ -130,6 +130,7 @@ impl CommitProxyRole {
         ensures answers { (config : Config) (book : List Entry) (known : Known)
             → CommitProxyRefines config book known self.old → is_idle (seen_as self.old).stage ≡ true
             → IsNextTicket config book known ticket.now → AreEntries (suc (length config.resolver_splits)) 0 book
+            → HorizonsRise 0 book
             → Answers result None
             (λ given. Seals config book known ticket.now self.old given.0 given.1 self.new) }
         ensures left { learn_fault (sealing self.old.state.proxy) ticket.now ≡ None

@@ -17,19 +17,20 @@ pub(crate) struct ResolverRole {
 }
 
 impl ResolverRole {
-    ghost use Rattle.std.specs.Prelude.{◌≡◌, ◌<◌, ◌-◌, ◌+◌, ◌^◌, ◌++◌, suc, [], ◌∷◌, ℕ, List, length, None, Some, IfOk};
-    ghost use Rattle.std.specs.Prelude.{OnErr};
+    ghost use Rattle.std.specs.Prelude.{◌≡◌, ◌<◌, ◌≤◌, ◌-◌, ◌+◌, ◌^◌, ◌++◌, suc, [], ◌∷◌, ℕ, List, length, None, Some};
+    ghost use Rattle.std.specs.Prelude.{IfOk, OnErr};
     ghost use Rattle.std.specs.Prelude.{slice_get};
     ghost use Rattle.fdb_keys.specs.Answers.{Answers};
     ghost use Rattle.fdb_keys.specs.Points.{Point};
     ghost use Rattle.fdb_txn.specs.declared.entry.Entry.{Entry};
-    ghost use Rattle.fdb_txn.specs.book.Book.{seen_of};
+    ghost use Rattle.fdb_txn.specs.book.Book.{seen_of, last_horizon};
     ghost use Rattle.fdb_txn.specs.book.History.{AreEntries};
     ghost use Rattle.fdb_proxy.specs.Parting.{IsPartOf};
     ghost use Rattle.fdb_proxy.specs.Verdicts.{moves_through};
     ghost use Rattle.fdb_resolver.specs.Parts.{IsPart};
     ghost use Rattle.fdb_core.specs.refinement.resolver.Resolving.{ResolverRefines, TakesNext, IsLeftBy};
     ghost use Rattle.fdb_roles.specs.AtBook.{IsResolverAt};
+    ghost use Rattle.fdb_roles.specs.ProxyStages.{position_in};
 
     /// The resolver with the number, which took nothing.
     pub(crate) fn new(alloc: Global, index: u32) -> Self
@@ -54,9 +55,8 @@ impl ResolverRole {
         requires few { self.old.taken < 2 ^ 32 - 1 }
         ensures takes { (splits : List Point) (before : List Entry) (entry : Entry) (i index : ℕ)
             → IsResolverAt splits before i self.old.state
-            → AreEntries (suc (length splits)) 0 (before ++ entry ∷ [])
-            → IsPartOf splits (moves_through (seen_of before) entry)
-            (record { index = index; version = entry.version; prev = entry.prev }) entry.batch i part.now
+            → AreEntries (suc (length splits)) 0 (before ++ entry ∷ []) → last_horizon before ≤ entry.horizon
+            → IsPartOf splits (moves_through (seen_of before) entry) (position_in index entry) entry.batch i part.now
             → Answers result None (λ answer. TakesNext splits before entry i index self.old answer self.new) }
         ensures left { OnErr result (IsLeftBy self.old self.new) }
     {

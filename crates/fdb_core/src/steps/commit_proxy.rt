@@ -68,12 +68,14 @@ impl Cluster {
             index,
             version,
             prev,
+            horizon,
             pending: moves,
             ..
         } = ticket;
         self.book.push_reserved(Entry {
             version,
             prev,
+            horizon,
             moves,
             batch,
         });

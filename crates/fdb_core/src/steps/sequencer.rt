@@ -1,4 +1,4 @@
-// Keys go over to another resolver.
+// Keys go over to another resolver, and the window is set.
 ghost use Rattle.fdb_machine.specs.declared.step.AnyStep.TheVariants as step;
 ghost use Rattle.fdb_core.specs.refinement.Restoring.{Tied};
 ghost use Rattle.fdb_core.specs.refinement.Steps.{Takes};
@@ -16,6 +16,15 @@ impl Cluster {
     {
         let range = range.clone()?;
         self.sequencer.move_to(Move { range, to })?;
+        Ok(Answered::Done)
+    }
+
+    #[tactic(auto, unfolding(fdb_machine::specs::machine::SequencerSteps::sets_window))]
+    pub(crate) fn set_window(&mut self, window: u64) -> Result<Answered, Refusal>
+        requires { Tied self.old }
+        ensures { Takes self.old (step.Window window) result self.new }
+    {
+        self.sequencer.set_window(window)?;
         Ok(Answered::Done)
     }
 }

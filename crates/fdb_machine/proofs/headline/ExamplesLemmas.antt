@@ -47,10 +47,10 @@ use Rattle.fdb_machine.specs.declared.step.Answered.TheVariants as answered
 
 -- the two places of the entry
 abbrev first : Place
-first = placed (head_at 100 []) 0 (commit_request_of (reads_and_sets 0 None))
+first = placed (head_at 100 0 []) 0 (commit_request_of (reads_and_sets 0 None))
 
 abbrev second : Place
-second = placed (head_at 100 []) 1 (commit_request_of (reads_and_sets 1 None))
+second = placed (head_at 100 0 []) 1 (commit_request_of (reads_and_sets 1 None))
 
 -- the empty map has nothing at a key
 nothing_there : get {X = List ℕ} {R = slice_cmp nat_cmp} empty (codes "a") ≡ None

@@ -127,6 +127,7 @@ taker-fails (step.Answer proxy) old new is role = absurd is
 taker-fails (step.Forget shard version) old new is role = absurd is
 taker-fails (step.Pop shard) old new is role = absurd is
 taker-fails (step.Move range to) old new is role = absurd is
+taker-fails (step.Window window) old new is role = absurd is
 
 pub only_the_taker_fails : OnlyTheTakerFails
 only_the_taker_fails old new one_step result stepped role = ⊎_elim
@@ -259,6 +260,7 @@ module _ (m : Machine) (failed : Failures) where
   used-role (step.Forget shard version) used = (AShard shard, refl, set-is failed.shards shard used)
   used-role (step.Pop shard) used = pulled shard used
   used-role (step.Move range to) used = cc
+  used-role (step.Window window) used = cc
 
   own-proxy : (proxy : ℕ) (role : Role) → role ≡ ACommitProxy proxy → HasFailed failed role
       → is_set failed.commit_proxies proxy ≡ true
@@ -316,6 +318,7 @@ module _ (m : Machine) (failed : Failures) where
   role-used (step.Forget shard version) role comes has = own-shard shard role comes has
   role-used (step.Pop shard) role comes has = pulls shard role comes has
   role-used (step.Move range to) role comes has = absurd comes
+  role-used (step.Window window) role comes has = absurd comes
 
 -- what a step comes to that memory didn't run out in
 had-taken : (old new : State) (one_step : Step) (result : Result Answered Refusal) → IsStep old one_step result new

@@ -88,6 +88,7 @@ module _ (config : Config) (m : Machine) where
   none-used (step.Forget shard version) = no-shard shard
   none-used (step.Pop shard) = none-pulled shard (log_of (length m.logs) shard)
   none-used (step.Move range to) = refl
+  none-used (step.Window window) = refl
 
 -- so it comes to what the machine says
 pub none-taken : (config : Config) (m : Machine) (one_step : Step)

@@ -1,7 +1,7 @@
 -- What the headline's own words refuse, computed.
 use Rattle.std.proofs.Common.{◌≡◌, ◌∙◌, ◌≤◌, sym, ap, refl, subst, arith, ℕ, zero, suc, Bool, true, false, List}
 use Rattle.std.proofs.Common.{[], ◌∷◌, Option, Some, None, length, slice_get}
-use Rattle.std.specs.Prelude.{codes, ◌==◌}
+use Rattle.std.specs.Prelude.{codes, ◌==◌, ◌-◌}
 use Rattle.std.specs.List.{count_by}
 use Rattle.std.proofs.lemmas.Bool.{eqb-true}
 use Rattle.std.specs.FinMap.{get, empty, get-empty}
@@ -10,6 +10,7 @@ use Rattle.std.specs.Cmp.Lexicographic.{slice_cmp}
 use Rattle.fdb_keys.specs.Points.{point_lt}
 use Rattle.fdb_keys.specs.Insertion as insertion
 use Rattle.fdb_keys.specs.Ranges.{Range}
+use Rattle.fdb_txn.specs.Limits.{window}
 use Rattle.fdb_mutations.specs.declared.mutation.Mutation.{Mutation}
 use Rattle.fdb_mutations.specs.declared.mutation.Mutation.TheVariants.{Set}
 use Rattle.fdb_txn.specs.book.Book.{Place, head_at, placed}
@@ -36,7 +37,7 @@ use Rattle.fdb_machine.specs.machine.Sessions.{Idle, Asking, Waiting}
 
 -- the place of the first transaction in an entry at the version
 abbrev first_at : ℕ → Place
-first_at version = placed (head_at version []) 0 (commit_request_of (reads_and_sets 0 None))
+first_at version = placed (head_at version (version - window) []) 0 (commit_request_of (reads_and_sets 0 None))
 
 -- the empty map has nothing at a key
 pub nothing_at : (key : List ℕ) → get {X = List ℕ} {R = slice_cmp nat_cmp} empty key ≡ None

@@ -55,7 +55,7 @@ one-each {A} {B} P far kept holds = (refl, there)
 
 -- the one entry of the book
 abbrev the_entry : Entry
-the_entry = record { version = 100; prev = 0; moves = []; batch = [] }
+the_entry = record { version = 100; prev = 0; horizon = 0; moves = []; batch = [] }
 
 sequencer-keeps : SequencerKeeps taken_by_all sequencer
 sequencer-keeps = (
@@ -66,6 +66,8 @@ sequencer-keeps = (
   omega arith,
   refl,
   learnt,
+  refl,
+  refl,
 )
   where
     learnt : (proxy : ℕ) → proxy < 1
@@ -77,18 +79,18 @@ sequencer-keeps = (
 abbrev ArePartsAt : ℕ → Entry → List Part → Type 0
 ArePartsAt i entry of =
     AreParts [] (moves_through (seen_before taken_by_all.book i) entry)
-    (record { index = i; version = entry.version; prev = entry.prev }) entry.batch of
+    (record { index = i; version = entry.version; prev = entry.prev; horizon = entry.horizon }) entry.batch of
 
 parts-keep : PartsKeep taken_by_all ((empty_part ∷ []) ∷ [])
 parts-keep = (refl, there)
   where
     each : (i : ℕ) (part : Part) → slice_get (empty_part ∷ []) i ≡ Some part
         → IsPartOf [] (moves_through (seen_before taken_by_all.book 0) the_entry)
-        (record { index = 0; version = 100; prev = 0 }) [] i part
+        (record { index = 0; version = 100; prev = 0; horizon = 0 }) [] i part
     each zero part at = let same : empty_part ≡ part = cc in
         subst (λ (p : Part). IsPartOf [] (moves_through (seen_before taken_by_all.book 0) the_entry)
-        (record { index = 0; version = 100; prev = 0 }) [] 0 p) same
-        (record { resolver = refl; index = refl; version = refl; prev = refl; items = refl })
+        (record { index = 0; version = 100; prev = 0; horizon = 0 }) [] 0 p) same
+        (record { resolver = refl; index = refl; version = refl; prev = refl; horizon = refl; items = refl })
     each (suc i) part at = cc
 
     there : (i : ℕ) (entry : Entry) (of : List Part) → slice_get taken_by_all.book i ≡ Some entry
@@ -197,6 +199,8 @@ other_sequencers_are_in_no_world = (
       let wrong : length first.0 + 1 ≡ 0 = sym (length-append first.0 (record { version = 100; moves = _ } ∷ []))
       ∙ ap (λ (moves : List Dated). length moves) first.1 in
       omega (arith, wrong)),
+  (λ keep. let wrong : 1 ≡ 5000000 = keep.1.7 in omega (arith, wrong)),
+  (λ keep. let wrong : 1 ≡ 0 = keep.1.8 in omega (arith, wrong)),
 )
 
 pub other_resolvers_are_in_no_world : OtherResolversAreInNoWorld
@@ -219,6 +223,7 @@ other_messages_are_in_no_world = (
   (λ keep. let wrong : 101 ≡ 100 = ((keep.3.1 0 the_entry _ refl refl).each 0 _ refl).version in
       omega (arith, wrong)),
   (λ keep. let wrong : 1 ≡ 0 = ((keep.3.1 0 the_entry _ refl refl).each 0 _ refl).prev in omega (arith, wrong)),
+  (λ keep. let wrong : 1 ≡ 0 = ((keep.3.1 0 the_entry _ refl refl).each 0 _ refl).horizon in omega (arith, wrong)),
   (λ keep. let wrong : 2 ≡ 1 = keep.4.0 in omega (arith, wrong)),
   (λ keep. let wrong = keep.4.1 0 the_entry refl in cc),
   (λ keep. let wrong : 0 ≡ 1 = ap sent (keep.4.1 0 the_entry refl) in omega (arith, wrong)),

@@ -1,15 +1,15 @@
 -- What the machine does where keys go over, computed.
 use Rattle.std.proofs.Common.{refl}
 use Rattle.fdb_keys.specs.Points.{point_lt}
-use Rattle.fdb_machine.specs.headline.MoveExamples.{TheSpanBeginsAtTheWindow, TheLaterMoveCounts}
+use Rattle.fdb_machine.specs.headline.MoveExamples.{TheSpanBeginsAtTheHorizon, TheLaterMoveCounts}
 use Rattle.fdb_machine.specs.headline.MoveExamples.{MovesTakeEffectWithTheNextEntry}
 use Rattle.fdb_machine.specs.machine.CommitProxySteps.{seals}
 use Rattle.fdb_machine.specs.machine.RoleSteps.{resolves}
 use Rattle.fdb_machine.specs.machine.SequencerSteps.{moves}
 
-pub the_span_begins_at_the_window : TheSpanBeginsAtTheWindow
+pub the_span_begins_at_the_horizon : TheSpanBeginsAtTheHorizon
 unfolding point_lt resolves
-the_span_begins_at_the_window = (refl, refl, refl, refl)
+the_span_begins_at_the_horizon = (refl, refl, refl, refl)
 
 pub the_later_move_counts : TheLaterMoveCounts
 unfolding point_lt resolves

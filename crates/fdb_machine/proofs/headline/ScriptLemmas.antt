@@ -267,6 +267,7 @@ module _ (known : Known) (m : Machine) where
   next_by (step.Forget shard version) = next m (step.Forget shard version)
   next_by (step.Pop shard) = next m (step.Pop shard)
   next_by (step.Move range to) = next m (step.Move range to)
+  next_by (step.Window window) = next m (step.Window window)
 
 same_found : {A : Type 0} (there : Option A) (one other : A → Result Transition Refusal)
     → ((x : A) → one x ≡ other x) → found there one ≡ found there other
@@ -407,6 +408,7 @@ module _ (known : Known) (before : Machine) where
   next-is (step.Forget shard version) = refl
   next-is (step.Pop shard) = refl
   next-is (step.Move range to) = refl
+  next-is (step.Window window) = refl
 
 -- the same of a machine that has these sessions
 next-known : (known : Known) (m : Machine) (step : Step) → m.sessions ≡ sessions_of known

@@ -11,4 +11,4 @@ use Rattle.fdb_machine.proofs.invariant.OnceLaws.{ids-once}
 pub book-is : (m : Machine) → Invariant m
     → IsBook (suc (length m.config.resolver_splits)) m.book × AllByRecursion IsSealed m.book
 book-is m sound = (books_are_entries (suc (length m.config.resolver_splits)) m.book).1
-    (sound.entries, ids-once m sound.once)
+    (sound.entries, ids-once m sound.once, sound.horizons)

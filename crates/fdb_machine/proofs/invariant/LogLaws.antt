@@ -130,6 +130,8 @@ logged_steps = record {
       };
   moved = λ m range to exists logged. record
       { commit_proxies = logged.commit_proxies; acknowledged = logged.acknowledged };
+  windowed = λ m width within logged. record
+      { commit_proxies = logged.commit_proxies; acknowledged = logged.acknowledged };
   told = λ m proxy commit_proxy entry at reported there logged. record {
     commit_proxies = all-set (ProxyTold m.logs) m.commit_proxies proxy _ logged.commit_proxies
         ((λ logging. cc), (λ still. cc));

@@ -233,6 +233,7 @@ module _ (id : TxnId) where
       with-commit_proxy m proxy commit_proxy _ once.1 at refl,
     );
     moved = λ m range to exists once. (session_steps.moved m range to exists once.0, once.1);
+    windowed = λ m width within once. (session_steps.windowed m width within once.0, once.1);
     told = λ m proxy commit_proxy entry at reported there once. (
       session_steps.told m proxy commit_proxy entry at reported there once.0,
       told-once m commit_proxy.in_flight _ (with-commit_proxy m proxy commit_proxy _ once.1 at refl),

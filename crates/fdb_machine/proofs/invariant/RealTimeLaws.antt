@@ -231,6 +231,7 @@ module _ (P : Sessions → TxnId → ℕ → Type 0) (low : ℕ) where
         (kept.1.0, set-proxy m kept proxy _ (proxy-has m kept proxy commit_proxy at), kept.1.2),
       );
       moved = λ m range to exists kept. kept;
+      windowed = λ m width within kept. kept;
       told = λ m proxy commit_proxy entry at reported there kept.
           let was = proxy-has m kept proxy commit_proxy at in
           let placed = all-placed (Has m.sessions) commit_proxy.entry commit_proxy.in_flight _ was.1 in (

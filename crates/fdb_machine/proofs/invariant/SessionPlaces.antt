@@ -280,6 +280,7 @@ session_steps = record {
     with-none_idle m proxy _ (λ idle. cc) all,
   );
   moved = λ m range to exists all. all;
+  windowed = λ m width within all. all;
   told = λ m proxy commit_proxy entry at reported there all. (
     λ session. told-stands session m proxy commit_proxy _ at (omega arith) (all.0 session),
     with-none_idle m proxy _ (λ idle. refl) all,

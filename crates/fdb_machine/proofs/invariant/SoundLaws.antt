@@ -4,17 +4,18 @@ use Rattle.std.proofs.Common.{true, false, List, [], ◌∷◌, take, map, lengt
 use Rattle.std.specs.List.{AllByRecursion, slice_get, slice_set}
 use Rattle.fdb_keys.specs.declared.refusal.Refusal.{Refusal}
 use Rattle.fdb_keys.proofs.Exports.{all-append, all-weaken}
-use Rattle.fdb_txn.specs.Limits.{place_limit}
+use Rattle.fdb_txn.specs.Limits.{place_limit, window}
 use Rattle.fdb_txn.specs.declared.entry.Entry.{Entry}
 use Rattle.fdb_txn.specs.declared.entry.Move.{Move}
 use Rattle.fdb_txn.specs.declared.txn_id.TxnId.{TxnId}
-use Rattle.fdb_txn.specs.book.Book.{last_version}
-use Rattle.fdb_txn.proofs.Exports.{entries_go_on}
+use Rattle.fdb_txn.specs.book.Book.{last_version, last_horizon}
+use Rattle.fdb_txn.proofs.Exports.{entries_go_on, horizons_part}
 use Rattle.fdb_proxy.specs.declared.config.Config.{Config}
 use Rattle.fdb_client.specs.declared.program.Transcript.{Transcript}
 use Rattle.fdb_client.specs.TxnState.{with_op}
 use Rattle.fdb_client.specs.Programs.{commit_request_of}
 use Rattle.fdb_roles.specs.declared.placed.Placed.{Placed}
+use Rattle.fdb_roles.proofs.Exports.{horizon-within}
 use Rattle.fdb_roles.proofs.Exports.{all-at, all-both, all-set, all-push, all-drop, all-take, all-replicate, last-push}
 use Rattle.fdb_machine.specs.machine.Roles.{CommitProxy, Reported, ShardProgress}
 use Rattle.fdb_machine.specs.headline.Traces.{machine_of_trace}
@@ -61,6 +62,8 @@ module _ (m : Machine) (sound : Invariant m) where
     acknowledged = acknowledged;
     reported = reported;
     once = once;
+    horizons = sound.horizons;
+    window = sound.window;
   }
 
   -- what is found in its lists is sound
@@ -101,7 +104,7 @@ sound-sealed : (m : Machine) (proxy advance : ℕ) (commit_proxy : CommitProxy) 
 sound-sealed m proxy advance commit_proxy sound at once = record {
   entries = entries_go_on (suc (length m.config.resolver_splits)) 0 m.book entry sound.entries (
     above,
-    refl,
+    (refl, below),
     sound.pending,
     sealed-batch m entry.version (take place_limit commit_proxy.waiting) (omega (arith, above, sound.committed))
         (all-take (IsReplied m) place_limit commit_proxy.waiting (commit_proxy-at m sound proxy commit_proxy at).0),
@@ -121,6 +124,8 @@ sound-sealed m proxy advance commit_proxy sound at once = record {
       (le_trans reported.0 sound.committed) stands) m.acknowledged sound.acknowledged sound.reported;
   reported = sound.reported;
   once = once;
+  horizons = (horizons_part 0 m.book (entry ∷ [])).1 (sound.horizons, (rises, tt));
+  window = sound.window;
 }
   where
     entry : Entry
@@ -131,6 +136,17 @@ sound-sealed m proxy advance commit_proxy sound at once = record {
 
     above : last_version m.book < entry.version
     above = omega arith
+
+    rises : last_horizon m.book ≤ entry.horizon
+    rises = omega arith
+
+    below : entry.horizon < entry.version
+    below = omega (
+      arith,
+      above,
+      sound.window,
+      horizon-within (suc (length m.config.resolver_splits)) 0 0 m.book (le_refl 0) sound.entries,
+    )
 
     told : (transcript : Transcript) → IsReplied m transcript → IsReplied after transcript
     told transcript = told-entry m entry transcript (omega (arith, above, sound.committed))
@@ -168,6 +184,8 @@ sound-reported m proxy commit_proxy entry sound at busy there once = record {
   reported = all-weaken (IsReported m) (IsReported raised) (λ placed is. (le_trans is.0 up, is.1)) m.acknowledged
       sound.reported;
   once = once;
+  horizons = sound.horizons;
+  window = sound.window;
 }
   where
     raised : Machine
@@ -248,6 +266,20 @@ sound_steps = record {
     acknowledged = sound.acknowledged;
     reported = sound.reported;
     once = λ id. (once_steps id).moved m range to exists (sound.once id);
+    horizons = sound.horizons;
+    window = sound.window;
+  };
+  windowed = λ m width within sound. record {
+    entries = sound.entries;
+    pending = sound.pending;
+    committed = sound.committed;
+    opened = sound.opened;
+    commit_proxies = sound.commit_proxies;
+    acknowledged = sound.acknowledged;
+    reported = sound.reported;
+    once = λ id. (once_steps id).windowed m width within (sound.once id);
+    horizons = sound.horizons;
+    window = within;
   };
   told = λ m proxy commit_proxy entry at reported there sound.
       let was = commit_proxy-at m sound proxy commit_proxy at in
@@ -274,6 +306,8 @@ sound-start config = record {
   acknowledged = tt;
   reported = tt;
   once = λ id. once-start id config;
+  horizons = tt;
+  window = (omega arith, le_refl window);
 }
 
 -- and so it is after any trace

@@ -1,7 +1,7 @@
 -- What it takes to keep the machine sound: tests that accepted steps passed, transcripts, the book, and parts that
 -- change.
-use Rattle.std.proofs.Common.{◌≡◌, ◌∙◌, sym, ap, subst, arith, ◌<◌, ◌≤◌, le_trans, ℕ, zero, suc, List, [], ◌∷◌, ◌++◌}
-use Rattle.std.proofs.Common.{map, Some}
+use Rattle.std.proofs.Common.{◌≡◌, ◌∙◌, sym, ap, subst, arith, ◌<◌, ◌≤◌, le_trans, ℕ, zero, suc, List, []}
+use Rattle.std.proofs.Common.{◌∷◌, ◌++◌, map, Some}
 use Rattle.std.specs.List.{AllByRecursion, slice_get}
 use Rattle.fdb_keys.proofs.Exports.{all-weaken}
 use Rattle.fdb_mutations.specs.Maps.{Map}

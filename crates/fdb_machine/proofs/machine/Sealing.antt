@@ -6,7 +6,7 @@ use Rattle.std.proofs.lemmas.Bool.{le-ltb, lt-leb}
 use Rattle.std.proofs.lemmas.List.{length-map, length-take}
 use Rattle.fdb_txn.specs.Limits.{place_limit, version_limit}
 use Rattle.fdb_txn.specs.declared.entry.Entry.{Entry}
-use Rattle.fdb_txn.specs.book.Book.{last_version}
+use Rattle.fdb_txn.specs.book.Book.{last_version, last_horizon, next_horizon}
 use Rattle.fdb_txn.specs.book.Transactions.{Transaction}
 use Rattle.fdb_sequencer.specs.Sequencer.{next_version}
 use Rattle.fdb_client.specs.declared.program.Transcript.{Transcript}
@@ -21,6 +21,7 @@ abbrev pub sealed_entry : Machine → ℕ → CommitProxy → Entry
 sealed_entry m advance commit_proxy = record {
   version = next_version (last_version m.book) advance;
   prev = last_version m.book;
+  horizon = next_horizon (last_horizon m.book) m.window (next_version (last_version m.book) advance);
   moves = m.pending;
   batch = map commit_request_of (take place_limit commit_proxy.waiting);
 }

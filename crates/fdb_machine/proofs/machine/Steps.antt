@@ -1,19 +1,20 @@
 -- The walk over the steps of all kinds: what accepted steps change, and what they keep.
 use Rattle.std.proofs.Common.{◌≡◌, ◌∙◌, ◌<◌, ◌≤◌, refl, ap, ℕ, suc, ◌+◌, min, max, Bool, true, false, not, List, []}
 use Rattle.std.proofs.Common.{◌∷◌, ◌++◌, take, map, length, fold, Option, Some, None, Result, Ok, Err, inl, inr, arith}
-use Rattle.std.specs.Prelude.{nat_lt, nat_le, ◌||◌}
+use Rattle.std.specs.Prelude.{nat_lt, nat_le, ◌||◌, if◌then◌else◌}
 use Rattle.std.specs.List.{slice_get, slice_set, list_any}
-use Rattle.std.proofs.lemmas.Bool.{and_parts, or_parts, eqb-true, not-false, ltb-false, leb-false}
+use Rattle.std.proofs.lemmas.Bool.{and_parts, or_parts, eqb-true, not-false, ltb-false, leb-false, leb-true}
 use Rattle.fdb_keys.specs.Ranges.{Range, is_empty_range}
 use Rattle.fdb_keys.specs.declared.refusal.Refusal.{Refusal}
+use Rattle.fdb_keys.specs.declared.refusal.Refusal.TheVariants.{BadConfig}
 use Rattle.fdb_mutations.specs.Mutations.{mutation_fault}
-use Rattle.fdb_txn.specs.Limits.{place_limit, move_limit, version_limit}
+use Rattle.fdb_txn.specs.Limits.{place_limit, move_limit, version_limit, window}
 use Rattle.fdb_txn.specs.declared.entry.Entry.{Entry}
 use Rattle.fdb_txn.specs.declared.spot.Spot.TheVariants as spot
 use Rattle.fdb_txn.specs.book.Book.{seen_of, last_version, seen_before}
 use Rattle.fdb_txn.specs.rules.SerialMap.{serial_map_at}
 use Rattle.fdb_txn.specs.book.Size.{size_fault}
-use Rattle.fdb_sequencer.specs.Sequencer.{next_version}
+use Rattle.fdb_sequencer.specs.Sequencer.{next_version, set_window_fault, is_count}
 use Rattle.fdb_log.specs.Messages.{log_of}
 use Rattle.fdb_proxy.specs.Verdicts.{is_needed, outcomes_on}
 use Rattle.fdb_client.specs.declared.program.Op.{Op}
@@ -32,7 +33,7 @@ use Rattle.fdb_machine.specs.machine.CommitProxySteps.{reports, answers, is_idle
 use Rattle.fdb_machine.specs.machine.CommitProxySteps.{placed_from, replies_from}
 use Rattle.fdb_machine.specs.machine.Machine.{Machine, Transition, is_set, first_missing}
 use Rattle.fdb_machine.specs.machine.RoleSteps.{version_of_shard, resolves, pushes, pulls, forgets, pops}
-use Rattle.fdb_machine.specs.machine.SequencerSteps.{moves}
+use Rattle.fdb_machine.specs.machine.SequencerSteps.{moves, sets_window}
 use Rattle.fdb_machine.specs.machine.Sessions.{Idle as Free, Asking, Waiting, session_of, open_at, with_state, is_busy}
 use Rattle.fdb_machine.specs.machine.Sessions.{serve, tell_all}
 use Rattle.fdb_machine.specs.machine.Steps.{next, after}
@@ -56,6 +57,17 @@ operation_of (step.Write session mutation) = Some (session, op.Write mutation)
 operation_of (step.AddRead session range) = Some (session, op.AddRead range)
 operation_of (step.AddWrite session range) = Some (session, op.AddWrite range)
 operation_of one_step = None
+
+-- a window without a fault is at least 1 and at most the greatest one
+pub window-legal : (width : ℕ) → set_window_fault width ≡ None → (1 ≤ width) × (width ≤ window)
+window-legal width faultless = by_test (is_count window width) refl faultless
+  where
+    by_test : (test : Bool) → is_count window width ≡ test
+        → Path (Option Refusal) (if test then None else Some BadConfig) None → (1 ≤ width) × (width ≤ window)
+    by_test true counts none =
+        let parts = and_parts (nat_le 1 width) (nat_le width window) counts in
+        (leb-true 1 width parts.0, leb-true width window parts.1)
+    by_test false counts none = cc
 
 -- the step is one of a role that tells clients nothing
 abbrev pub is_quiet : Step → Bool
@@ -153,6 +165,9 @@ pub record HoldsOfSteps (R : Machine → Step → Answered → Machine → Type 
   pub moved : (m : Machine) (range : Range) (to : ℕ) → to < suc (length m.config.resolver_splits)
       → R m (step.Move range to) answered.Done
       (record m { pending = m.pending ++ record { range = range; to = to } ∷ [] })
+  -- a window is set, which is at least 1 and at most the greatest one (Window)
+  pub windowed : (m : Machine) (width : ℕ) → (1 ≤ width) × (width ≤ window)
+      → R m (step.Window width) answered.Done (record m { window = width })
   -- a proxy told the clients of its reported batch (Answer)
   pub told : (m : Machine) (proxy : ℕ) (commit_proxy : CommitProxy) (entry : Entry)
       → slice_get m.commit_proxies proxy ≡ Some commit_proxy → commit_proxy.stage ≡ Reported
@@ -219,7 +234,7 @@ module _ (R : Machine → Step → Answered → Machine → Type 0) (holds : Hol
   -- it holds of every accepted step
   pub holds-next : (m : Machine) (one_step : Step) → IfAccepted (Leads m one_step) (next m one_step)
   unfolding asks grants writes adds_read adds_write submits seals resolves receives decides pushes reports answers
-      pulls forgets pops moves
+      pulls forgets pops moves sets_window
   holds-next m (step.Ask session proxy) =
       past-found _ (slice_get m.grv_proxies proxy) _ (λ there at.
       past-test _ (is_busy (session_of m.sessions session).state) _ _
@@ -402,6 +417,8 @@ module _ (R : Machine → Step → Answered → Machine → Type 0) (holds : Hol
       past-test _ (nat_le move_limit (moves_in m.book + length m.pending)) _ _ (λ _.
       holds.moved m range to
       (leb-false resolvers to (or_parts (nat_le resolvers to) (is_empty_range range) legal).0)))
+  holds-next m (step.Window width) =
+      past-fault _ (set_window_fault width) _ (λ legal. holds.windowed m width (window-legal width legal))
 
 -- What steps keep.
 abbrev pub KeptBySteps : (Machine → Type 0) → Type 0

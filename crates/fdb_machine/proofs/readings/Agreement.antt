@@ -58,18 +58,19 @@ AnsweredOnce book answered commit_proxies =
 
 -- the fields of the machine are what is told
 pub record Tells (r : Readings) (book : List Entry) (sessions : Sessions) (acknowledged : List Placed)
-    (committed : ℕ) (pending : List Move) (commit_proxies : List CommitProxy) : Type 0 where
+    (committed : ℕ) (pending : List Move) (window : ℕ) (commit_proxies : List CommitProxy) : Type 0 where
   pub book_told : r.book ≡ book
   pub opened_told : OpenTold r.opened sessions
   pub acknowledged_told : r.acknowledged ≡ acknowledged
   pub reported_told : r.reported ≡ committed
   pub moves_told : r.pending ≡ pending
+  pub window_told : r.window ≡ window
   pub begun_told : NumbersBegun r.begun sessions
   pub proxies_told : AtProxies book r.waiting r.sealed commit_proxies
   pub once_told : AnsweredOnce book r.answered commit_proxies
 
 abbrev pub TellsMachine : Readings → Machine → Type 0
-TellsMachine r m = Tells r m.book m.sessions m.acknowledged m.committed m.pending m.commit_proxies
+TellsMachine r m = Tells r m.book m.sessions m.acknowledged m.committed m.pending m.window m.commit_proxies
 
 -- what a step tells beside what was told before is what the machine goes on to
 abbrev pub TellsOn : Machine → Step → Answered → Machine → Type 0
@@ -84,6 +85,7 @@ progress-tells r p m tells = record {
   acknowledged_told = tells.acknowledged_told;
   reported_told = tells.reported_told;
   moves_told = tells.moves_told;
+  window_told = tells.window_told;
   begun_told = tells.begun_told;
   proxies_told = tells.proxies_told;
   once_told = tells.once_told;
@@ -104,6 +106,7 @@ quiet-tells r m (step.Seal proxy advance) answer quiet tells = cc
 quiet-tells r m (step.Report proxy) answer quiet tells = cc
 quiet-tells r m (step.Answer proxy) answer quiet tells = cc
 quiet-tells r m (step.Move range to) answer quiet tells = cc
+quiet-tells r m (step.Window window) answer quiet tells = cc
 quiet-tells r m (step.Resolve i resolver) answer quiet tells = progress-tells r _ m tells
 quiet-tells r m (step.Verdict i resolver) answer quiet tells = progress-tells r _ m tells
 quiet-tells r m (step.Decide proxy) answer quiet tells = progress-tells r _ m tells
@@ -170,6 +173,7 @@ operation-tells r (step.Pull shard limit) session operation there is = cc
 operation-tells r (step.Forget shard version) session operation there is = cc
 operation-tells r (step.Pop shard) session operation there is = cc
 operation-tells r (step.Move range to) session operation there is = cc
+operation-tells r (step.Window window) session operation there is = cc
 
 -- the value by number, after a change at one of them
 pub changed-there : {A : Type 0} (proxy : ℕ) (value : A) (values : ℕ → A) → with_at proxy value values proxy ≡ value

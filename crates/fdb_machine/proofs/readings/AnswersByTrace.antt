@@ -118,6 +118,7 @@ operation-answered config r book (step.Pull shard limit) session operation trans
 operation-answered config r book (step.Forget shard version) session operation transcript same opened is = cc
 operation-answered config r book (step.Pop shard) session operation transcript same opened is = cc
 operation-answered config r book (step.Move range to) session operation transcript same opened is = cc
+operation-answered config r book (step.Window window) session operation transcript same opened is = cc
 
 -- the clients of a batch are told what became of their transactions
 all-told : (m : Machine) (proxy : ℕ) (commit_proxy : CommitProxy) (entry : Entry)
@@ -187,6 +188,7 @@ answered_steps = record {
       let batch = batch-at r m proxy commit_proxy entry tells at (ap is_idle logging) there in
       λ k. answered.Version (max (sym tells.reported_told k) (sym batch k).version);
   moved = λ m range to exists r has sound tells told. refl;
+  windowed = λ m width within r has sound tells told. (refl, within.0, within.1);
   told = λ m proxy commit_proxy entry at reported there r has sound tells told.
       all-told m proxy commit_proxy entry at reported there r has sound tells told;
 }

@@ -364,6 +364,7 @@ module _ (m : Machine) (r : Readings) (has : HasRoles m) (sound : Invariant m) (
   due-accepts (step.Forget shard version) due = absurd due
   due-accepts (step.Pop shard) due = absurd due
   due-accepts (step.Move range to) due = absurd due
+  due-accepts (step.Window window) due = absurd due
 
 -- what holds of the machine and of what is told after a trace, where memory doesn't run out in the next step, and that
 -- uses no role that has failed

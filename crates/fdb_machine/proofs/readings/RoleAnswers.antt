@@ -74,6 +74,7 @@ went-counts m (step.Logged i log) answer resolvers logs shards went = absurd wen
 went-counts m (step.Report proxy) answer resolvers logs shards went = absurd went
 went-counts m (step.Answer proxy) answer resolvers logs shards went = absurd went
 went-counts m (step.Move range to) answer resolvers logs shards went = absurd went
+went-counts m (step.Window window) answer resolvers logs shards went = absurd went
 
 same-roles : {m after : Machine} → after.config ≡ m.config → after.resolvers ≡ m.resolvers → after.logs ≡ m.logs
     → HasRoles m → HasRoles after
@@ -102,6 +103,7 @@ roles_stay = record {
       unreported went has. same-roles refl refl refl has;
   reported_version = λ m proxy commit_proxy entry at logging there whole has. same-roles refl refl refl has;
   moved = λ m range to exists has. same-roles refl refl refl has;
+  windowed = λ m width within has. same-roles refl refl refl has;
   told = λ m proxy commit_proxy entry at reported there has. same-roles refl refl refl has;
 }
 
@@ -332,6 +334,7 @@ module _ (m : Machine) (r : Readings) (has : HasRoles m) (sound : Invariant m) (
   role-answered (step.Report proxy) answer resolvers logs shards went = absurd went
   role-answered (step.Answer proxy) answer resolvers logs shards went = absurd went
   role-answered (step.Move range to) answer resolvers logs shards went = absurd went
+  role-answered (step.Window window) answer resolvers logs shards went = absurd went
 
   pub proxy-answered : (one_step : Step) (answer : Answered) (proxy : ℕ) (commit_proxy : CommitProxy) (stage : Stage)
       (decided verdicts acknowledgements : List Bool)
@@ -382,4 +385,6 @@ module _ (m : Machine) (r : Readings) (has : HasRoles m) (sound : Invariant m) (
   proxy-answered (step.Pop shard) answer proxy commit_proxy stage
       decided verdicts acknowledgements at went = absurd went
   proxy-answered (step.Move range to) answer proxy commit_proxy
+      stage decided verdicts acknowledgements at went = absurd went
+  proxy-answered (step.Window window) answer proxy commit_proxy
       stage decided verdicts acknowledgements at went = absurd went

@@ -276,6 +276,7 @@ roles-tell m (step.Logged i log) answer resolvers logs shards r went told = absu
 roles-tell m (step.Report proxy) answer resolvers logs shards r went told = absurd went
 roles-tell m (step.Answer proxy) answer resolvers logs shards r went told = absurd went
 roles-tell m (step.Move range to) answer resolvers logs shards r went told = absurd went
+roles-tell m (step.Window window) answer resolvers logs shards r went told = absurd went
 
 -- ---- commit proxies
 
@@ -617,6 +618,8 @@ proxies-tell m (step.Pop shard) answer proxy commit_proxy stage
     decided verdicts acknowledgements r went at told = absurd went
 proxies-tell m (step.Move range to) answer proxy commit_proxy stage
     decided verdicts acknowledgements r went at told = absurd went
+proxies-tell m (step.Window window) answer proxy commit_proxy stage
+    decided verdicts acknowledgements r went at told = absurd went
 
 -- a proxy seals its batch
 sealed-tells : (m : Machine) (proxy advance version : ℕ) (commit_proxy : CommitProxy) (p : Progress)
@@ -768,6 +771,7 @@ roles_tell_steps = record {
         λ busy. (told.proxies_told proxy commit_proxy at).1 (ap is_idle logging),
       );
   moved = λ m range to exists r sound tells told. told;
+  windowed = λ m width within r sound tells told. told;
   told = λ m proxy commit_proxy entry at reported there r sound tells told.
       same-flags m r.progress r.progress proxy commit_proxy _ told at refl (λ other differs. refl)
       (stage-at m r.progress proxy commit_proxy Reported told at reported, λ busy. cc);

@@ -6,7 +6,7 @@ use Rattle.std.proofs.lemmas.Option.{same_Some}
 use Rattle.fdb_txn.specs.Limits.{place_limit}
 use Rattle.fdb_txn.specs.declared.entry.Entry.{Entry}
 use Rattle.fdb_txn.specs.declared.spot.Spot.TheVariants as spot
-use Rattle.fdb_txn.specs.book.Book.{seen_of, seen_before, last_version}
+use Rattle.fdb_txn.specs.book.Book.{seen_of, seen_before, last_version, last_horizon, next_horizon}
 use Rattle.fdb_txn.specs.rules.SerialMap.{serial_map_at}
 use Rattle.fdb_sequencer.specs.Sequencer.{next_version}
 use Rattle.fdb_proxy.specs.Verdicts.{outcomes_on}
@@ -55,6 +55,7 @@ with-clients r m told_opened sessions told_acknowledged acknowledged told_report
       acknowledged_told = placed;
       reported_told = reported;
       moves_told = tells.moves_told;
+      window_told = tells.window_told;
       begun_told = numbers;
       proxies_told = tells.proxies_told;
       once_told = tells.once_told;
@@ -74,6 +75,7 @@ with-proxy r m waiting answered proxy new tells others has once = record {
   acknowledged_told = tells.acknowledged_told;
   reported_told = tells.reported_told;
   moves_told = tells.moves_told;
+  window_told = tells.window_told;
   begun_told = tells.begun_told;
   proxies_told = one-changes m.book r.waiting waiting r.sealed r.sealed m.commit_proxies proxy new tells.proxies_told
       (λ other differs. (others other differs, refl)) has;
@@ -103,6 +105,7 @@ granted-told version (asker ∷ askers) r m tells ready =
       acknowledged_told = tells.acknowledged_told;
       reported_told = tells.reported_told;
       moves_told = tells.moves_told;
+      window_told = tells.window_told;
       begun_told = numbers-begins version r m.sessions asker askers tells.begun_told ready;
       proxies_told = tells.proxies_told;
       once_told = tells.once_told;
@@ -166,6 +169,7 @@ sealed-told r m proxy advance commit_proxy tells at idle = record {
   acknowledged_told = tells.acknowledged_told;
   reported_told = tells.reported_told;
   moves_told = refl;
+  window_told = tells.window_told;
   begun_told = tells.begun_told;
   proxies_told = one-changes (m.book ++ entry ∷ []) r.waiting after.waiting r.sealed after.sealed m.commit_proxies proxy
       (sealed_proxy m commit_proxy)
@@ -203,12 +207,14 @@ sealed-told r m proxy advance commit_proxy tells at idle = record {
     entry_told : Path Entry (record {
       version = entry.version;
       prev = entry.prev;
+      horizon = next_horizon (last_horizon r.book) r.window entry.version;
       moves = r.pending;
       batch = map commit_request_of (take place_limit (r.waiting proxy));
     }) entry
     entry_told = λ i. record {
       version = entry.version;
       prev = entry.prev;
+      horizon = next_horizon (last_horizon (tells.book_told i)) (tells.window_told i) entry.version;
       moves = tells.moves_told i;
       batch = map commit_request_of (batch_told i);
     }
@@ -299,6 +305,18 @@ tells_steps = record {
     acknowledged_told = tells.acknowledged_told;
     reported_told = tells.reported_told;
     moves_told = λ k. tells.moves_told k ++ record { range = range; to = to } ∷ [];
+    window_told = tells.window_told;
+    begun_told = tells.begun_told;
+    proxies_told = tells.proxies_told;
+    once_told = tells.once_told;
+  };
+  windowed = λ m width within r sound tells. record {
+    book_told = tells.book_told;
+    opened_told = tells.opened_told;
+    acknowledged_told = tells.acknowledged_told;
+    reported_told = tells.reported_told;
+    moves_told = tells.moves_told;
+    window_told = refl;
     begun_told = tells.begun_told;
     proxies_told = tells.proxies_told;
     once_told = tells.once_told;

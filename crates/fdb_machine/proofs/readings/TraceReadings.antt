@@ -122,6 +122,7 @@ start-tells config = record {
   acknowledged_told = refl;
   reported_told = refl;
   moves_told = refl;
+  window_told = refl;
   begun_told = λ session. ap (λ (found : Session). found.last_number) (session-new session);
   proxies_told = λ proxy commit_proxy there. all-at Idle (start config).commit_proxies proxy commit_proxy
       (all-replicate Idle idle_proxy config.proxies (record { waiting_told = refl; batch_told = λ busy. cc })) there;
@@ -192,6 +193,7 @@ config_steps config = record {
       unreported went same. same;
   reported_version = λ m proxy commit_proxy entry at logging there whole same. same;
   moved = λ m range to exists same. same;
+  windowed = λ m width within same. same;
   told = λ m proxy commit_proxy entry at reported there same. same;
 }
 
@@ -226,6 +228,7 @@ worlds_show_what_is_told config steps given world stands =
           (λ i. (sym batch i).entry, λ i. (sym batch i).transcripts);
       acknowledged = sym tells.acknowledged_told;
       committed = sym tells.reported_told;
+      window = sym tells.window_told;
     }
 
 -- the entries are a book
@@ -233,11 +236,12 @@ pub traces_tell_books : TracesTellBooks
 traces_tell_books config steps given world stands =
     let m = machine_of_trace config steps given in
     let resolvers = suc (length config.resolver_splits) in
+    let sound = sound-trace config steps given in
     let entries : AreEntries resolvers 0 m.book = subst (λ (c : Config). AreEntries (suc (length c.resolver_splits)) 0
-    m.book) (config-kept config steps given) (sound-trace config steps given).entries in
+    m.book) (config-kept config steps given) sound.entries in
     subst (λ (book : List Entry). IsBook resolvers book × AllByRecursion IsSealed book)
     (sym (trace-tells config steps given world stands).book_told)
-    ((books_are_entries resolvers m.book).1 (entries, machine-once config steps given))
+    ((books_are_entries resolvers m.book).1 (entries, machine-once config steps given, sound.horizons))
 
 -- and no entry is answered twice
 pub entries_answered_once : EntriesAreAnsweredOnce

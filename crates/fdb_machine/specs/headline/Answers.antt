@@ -7,7 +7,7 @@ use Rattle.fdb_keys.specs.declared.refusal.Refusal.{Refusal}
 use Rattle.fdb_keys.specs.Points.{Point}
 use Rattle.fdb_keys.specs.Ranges.{Range}
 use Rattle.fdb_mutations.specs.PairLaws.{given_of}
-use Rattle.fdb_txn.specs.Limits.{place_limit}
+use Rattle.fdb_txn.specs.Limits.{place_limit, window}
 use Rattle.fdb_txn.specs.declared.entry.Entry.{Entry}
 use Rattle.fdb_txn.specs.declared.spot.Spot.TheVariants as spot
 use Rattle.fdb_txn.specs.book.Book.{Place, seen_of, last_version}
@@ -208,6 +208,7 @@ module _ (config : Config) (r : Readings) where
   -- the log drops what the shard has
   IsAnswered (step.Pop shard) answer = answer ≡ answered.Version (r.progress.reached shard)
   IsAnswered (step.Move range to) answer = answer ≡ answered.Done
+  IsAnswered (step.Window width) answer = (answer ≡ answered.Done) × (1 ≤ width) × (width ≤ window)
 
 -- over every trace each accepted step is answered so
 abbrev pub AnsweredByTheTrace : Type 0

@@ -166,7 +166,7 @@ EachServedVersionCounts =
 
 -- the one resolver's part of the entry, which asks it about no place
 abbrev pub empty_part : Part
-empty_part = record { resolver = 0; index = 0; version = 100; prev = 0; items = [] }
+empty_part = record { resolver = 0; index = 0; version = 100; prev = 0; horizon = 0; items = [] }
 
 -- A resolver that took the entry and knows of no write, a pool without its parts or with one that asks the resolver
 -- about no place of it, and a log that took it and has an empty message of it, keep something else than the book says.

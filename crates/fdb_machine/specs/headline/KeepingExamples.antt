@@ -20,7 +20,7 @@ use Rattle.fdb_machine.specs.machine.Worlds.{start}
 -- one entry of nobody, at version 100, which is decided, and which all roles took; the shard serves from 40 on
 abbrev pub taken_by_all : Machine
 taken_by_all = record (start plain) {
-  book = record { version = 100; prev = 0; moves = []; batch = [] } ∷ [];
+  book = record { version = 100; prev = 0; horizon = 0; moves = []; batch = [] } ∷ [];
   entry_proxies = 0 ∷ [];
   decided = true ∷ [];
   resolvers = 1 ∷ [];
@@ -93,8 +93,8 @@ FailuresAreShown =
     failed_shard = record shard { version = 7; floor = 9; is_failed = true }
 
 -- The sequencer accepted a ticket for each entry, gave it its version, keeps the greatest version that was reported,
--- which is none above that, and the moves that wait, and has yet to tell its proxy of no move but the last ones of the
--- entries.
+-- which is none above that, and the moves that wait, has yet to tell its proxy of no move but the last ones of the
+-- entries, and keeps the window and the last horizon.
 abbrev pub OtherSequencersAreInNoWorld : Type 0
 OtherSequencersAreInNoWorld =
     IsNoWorld (with_sequencer (record sequencer { accepted = 2 }))
@@ -105,6 +105,8 @@ OtherSequencersAreInNoWorld =
     })
     × IsNoWorld (with_sequencer (record sequencer { pending = record to_one { to = 0 } ∷ [] }))
     × IsNoWorld (with_sequencer (record sequencer { unlearnt = (one_dated ∷ []) ∷ [] }))
+    × IsNoWorld (with_sequencer (record sequencer { window = 1 }))
+    × IsNoWorld (with_sequencer (record sequencer { horizon = 1 }))
   where
     one_dated : Dated
     one_dated = record { version = 100; moves = record to_one { to = 0 } ∷ [] }
@@ -128,6 +130,7 @@ OtherMessagesAreInNoWorld =
     × IsNoWorld (with_part (record empty_part { index = 1 }))
     × IsNoWorld (with_part (record empty_part { version = 101 }))
     × IsNoWorld (with_part (record empty_part { prev = 1 }))
+    × IsNoWorld (with_part (record empty_part { horizon = 1 }))
     × IsNoWorld (record world { messages = Some (message ∷ []) ∷ None ∷ [] })
     × IsNoWorld (record world { messages = None ∷ [] })
     × IsNoWorld (record world { messages = Some [] ∷ [] })

@@ -38,10 +38,10 @@ read_late version =
     ∷ entry_of version 5000000 [] (reads_and_sets 0 100 (codes "p" ∷ []) (codes "b" ∷ []) ∷ [])
     ∷ []
 
--- The span of the read begins with the window. Resolver 1 owned p last at 199, and is asked as long as that lies in the
+-- The span of the read begins at the horizon. Resolver 1 owned p last at 199, and is asked as long as that lies in the
 -- span; resolver 0 is asked in both cases, and says that the transaction is old.
-abbrev pub TheSpanBeginsAtTheWindow : Type 0
-TheSpanBeginsAtTheWindow =
+abbrev pub TheSpanBeginsAtTheHorizon : Type 0
+TheSpanBeginsAtTheHorizon =
     (says (read_late 5000201) 3 1 ≡ verdicts [])
     × (says (read_late 5000201) 3 0 ≡ verdicts ((0, verdict.Old) ∷ []))
     × (says (read_late 5000199) 3 1 ≡ verdicts [])

@@ -92,6 +92,7 @@ ReadAtTwoProxies =
     × ((after_first 12).book ≡ record {
       version = 9000000;
       prev = 0;
+      horizon = 4000000;
       moves = move_of (codes "a") (codes "c") 1 ∷ [];
       batch = commit_request_of sets_a ∷ [];
     } ∷ [])

@@ -4,9 +4,10 @@ use Rattle.std.specs.Prelude.{ℕ, suc, max, Bool, true, false, ◌==◌, List, 
 use Rattle.std.specs.Prelude.{Some, None, Result, Ok, Err, if◌then◌else◌}
 use Rattle.std.specs.List.{count_by}
 use Rattle.fdb_keys.specs.declared.refusal.Refusal.{Refusal}
-use Rattle.fdb_txn.specs.Limits.{place_limit}
+use Rattle.fdb_txn.specs.Limits.{place_limit, window}
 use Rattle.fdb_txn.specs.declared.entry.Entry.{Entry}
 use Rattle.fdb_txn.specs.declared.entry.Move.{Move}
+use Rattle.fdb_txn.specs.book.Book.{last_horizon, next_horizon}
 use Rattle.fdb_txn.specs.declared.spot.Spot.TheVariants as spot
 use Rattle.fdb_proxy.specs.declared.outcome.Outcome.{Outcome}
 use Rattle.fdb_proxy.specs.declared.outcome.Outcome.TheVariants as outcome
@@ -60,6 +61,8 @@ pub record Readings : Type 0 where
   pub book : List Entry
   -- the moves since the last entry, the first one first
   pub pending : List Move
+  -- the window that was set last
+  pub window : ℕ
   -- the acknowledged transactions with their spots
   pub acknowledged : List Placed
   -- the entries whose clients were told, the first one first
@@ -94,6 +97,7 @@ nothing_read =
       sealed = λ proxy. record { entry = 0; version = 0; transcripts = [] };
       book = [];
       pending = [];
+      window = window;
       acknowledged = [];
       answered = [];
       reported = 0;
@@ -164,13 +168,19 @@ is_done_at r session version = record r {
 }
 
 -- The first of those who wait at the proxy, as many as a batch may have, are the batch of an entry, each with what its
--- program reads and writes. The moves since the entry before take effect with it.
+-- program reads and writes. The moves since the entry before take effect with it, and its horizon is by the window that
+-- was set last.
 abbrev pub seals_entry : Readings → ℕ → ℕ → ℕ → ℕ → Readings
 seals_entry r proxy index version prev =
     let batch = take place_limit (r.waiting proxy) in
     record r {
-      book = r.book ++ record
-          { version = version; prev = prev; moves = r.pending; batch = map commit_request_of batch } ∷ [];
+      book = r.book ++ record {
+        version = version;
+        prev = prev;
+        horizon = next_horizon (last_horizon r.book) r.window version;
+        moves = r.pending;
+        batch = map commit_request_of batch;
+      } ∷ [];
       pending = [];
       waiting = with_at proxy (drop place_limit (r.waiting proxy)) r.waiting;
       sealed = with_at proxy (record { entry = index; version = version; transcripts = batch }) r.sealed;
@@ -252,6 +262,7 @@ read r (step.Forget shard version) (answered.Version least) =
 read r (step.Forget shard version) answer = r
 read r (step.Pop shard) answer = r
 read r (step.Move range to) answer = record r { pending = r.pending ++ record { range = range; to = to } ∷ [] }
+read r (step.Window width) answer = record r { window = width }
 
 -- a refused step tells nothing
 abbrev pub read_step : Readings → Step → Result Answered Refusal → Readings

@@ -173,6 +173,23 @@ window =
     ∷ driven 2 ((0, verdict.Old) ∷ (1, verdict.Yes) ∷ []) [] (outcome.Old ∷ outcome.Commit 5000101 1 ∷ []) 5000101
     ((1, outcome.Old) ∷ (2, outcome.Commit 5000101 1) ∷ [])
 
+-- A horizon never falls. One that read at it is committed, and one version later it is too old; so is the one that read
+-- there as well and comes still later, though the window grew again. A window of nothing is refused.
+abbrev pub window_that_grows_again : List Line
+window_that_grows_again =
+    sealed 100 0 100 0 0 ∷ nobody_driven 0 100
+    ++ asks 0 ∷ asks 1 ∷ asks 2 ∷ granted ((0, 100) ∷ (1, 100) ∷ (2, 100) ∷ [])
+    ∷ gives (step.Pull 0 9) (answered.Version 100)
+    ∷ reads 0 (codes "a") None ∷ reads 1 (codes "a") None ∷ reads 2 (codes "a") None
+    ∷ sets 0 (codes "b") (codes "1") ∷ sets 1 (codes "c") (codes "1") ∷ sets 2 (codes "d") (codes "1")
+    ∷ refused (step.Window 0) refusal.BadConfig ∷ done (step.Window 150)
+    ∷ submits 0 ∷ sealed 150 1 250 100 1
+    ∷ driven 1 ((0, verdict.Yes) ∷ []) [] (outcome.Commit 250 0 ∷ []) 250 ((0, outcome.Commit 250 0) ∷ [])
+    ++ submits 1 ∷ sealed 1 2 251 250 1
+    ∷ driven 2 ((0, verdict.Old) ∷ []) [] (outcome.Old ∷ []) 251 ((1, outcome.Old) ∷ [])
+    ++ done (step.Window 5000000) ∷ submits 2 ∷ sealed 1 3 252 251 1
+    ∷ driven 3 ((0, verdict.Old) ∷ []) [] (outcome.Old ∷ []) 252 ((2, outcome.Old) ∷ [])
+
 -- a session asks at either proxy, is served there, sets a key and submits there
 abbrev pub sets_at : ℕ → Point → List Line
 sets_at number key =
@@ -217,3 +234,4 @@ WorkedScriptsAreTraces =
     × IsScript (parted_at_m 1) window
     × IsScript (parted_at_m 2) order_and_repeats
     × IsScript (parted_at_m 2) reported_in_the_other_order
+    × IsScript (parted_at_m 1) window_that_grows_again

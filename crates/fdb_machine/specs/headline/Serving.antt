@@ -1,11 +1,10 @@
 -- What a world shows of its roles, and what holds of it.
-use Rattle.std.specs.Prelude.{◌≡◌, ◌<◌, ◌≤◌, ◌-◌, ◌++◌, ℕ, suc, true, false, List, map, take, length, Option, Some}
+use Rattle.std.specs.Prelude.{◌≡◌, ◌<◌, ◌≤◌, ◌++◌, ℕ, suc, true, false, List, map, take, length, Option, Some}
 use Rattle.std.specs.Prelude.{None, slice_get, if◌then◌else◌}
 use Rattle.fdb_keys.specs.declared.refusal.Refusal.TheVariants.{Stale}
 use Rattle.fdb_interval.specs.Versions.{version_at}
-use Rattle.fdb_txn.specs.book.Book.{last_version, seen_before}
+use Rattle.fdb_txn.specs.book.Book.{last_version, last_horizon, seen_before}
 use Rattle.fdb_txn.specs.rules.Messages.{messages_for}
-use Rattle.fdb_txn.specs.rules.Owners.{window}
 use Rattle.fdb_txn.specs.rules.Resolvers.{IsStateOf}
 use Rattle.fdb_txn.specs.rules.Splits.{piece}
 use Rattle.fdb_txn.specs.declared.entry.Entry.{Entry}
@@ -50,7 +49,8 @@ EachKeeps {A} {B} P far kept =
 
 -- The sequencer gave each entry its version, and accepts no ticket of an entry again. It keeps the greatest version
 -- that was reported, which is none above them. It keeps the moves that take effect with the next entry, and for each
--- commit proxy those that it hasn't had, which are the last ones of the moves of the entries.
+-- commit proxy those that it hasn't had, which are the last ones of the moves of the entries. It keeps the window, and
+-- the horizon of the last entry.
 abbrev pub SequencerKeeps : Machine → Sequencer → Type 0
 SequencerKeeps m sequencer =
     (sequencer.accepted ≡ length m.book) × (sequencer.last ≡ last_version m.book)
@@ -59,16 +59,16 @@ SequencerKeeps m sequencer =
     × (sequencer.pending ≡ m.pending)
     × ((proxy : ℕ) → proxy < m.config.proxies
     → (learnt : List Dated) × (learnt ++ unlearnt_by sequencer proxy ≡ dated_moves m.book))
+    × (sequencer.window ≡ m.window) × (sequencer.horizon ≡ last_horizon m.book)
 
 -- A resolver that took so many entries has, unless it has failed, its number and the version of the last of them. From
--- the begin of that one's window on it tells at each point the greatest version of a place of theirs that it admitted
--- and that wrote the point where the resolver owned it.
+-- that one's horizon on it tells at each point the greatest version of a place of theirs that it admitted and that
+-- wrote the point where the resolver owned it.
 abbrev pub ResolverKeeps : Machine → ℕ → ℕ → Resolver → Type 0
 ResolverKeeps m i taken resolver =
-    let last = last_version (take taken m.book) in
     resolver.is_failed ≡ false
-    → (resolver.index ≡ i) × (resolver.last ≡ last)
-    × IsStateOf m.config.resolver_splits i (seen_before m.book taken).places (last - window)
+    → (resolver.index ≡ i) × (resolver.last ≡ last_version (take taken m.book))
+    × IsStateOf m.config.resolver_splits i (seen_before m.book taken).places (last_horizon (take taken m.book))
     (version_at resolver.versions)
 
 -- The parts of an entry for the resolvers are made with it, one for each resolver: it has an item for a place exactly
@@ -78,7 +78,7 @@ PartsKeep m parts =
     (length parts ≡ length m.book)
     × ((i : ℕ) (entry : Entry) (of : List Part) → slice_get m.book i ≡ Some entry → slice_get parts i ≡ Some of
     → AreParts m.config.resolver_splits (moves_through (seen_before m.book i) entry)
-    (record { index = i; version = entry.version; prev = entry.prev }) entry.batch of)
+    (record { index = i; version = entry.version; prev = entry.prev; horizon = entry.horizon }) entry.batch of)
 
 -- The messages of an entry for the logs are made once it is decided. They hold just the mutations of its committed
 -- transactions, each with its place and its tags: each log's, those of which it keeps a tag.

@@ -48,7 +48,7 @@ alone (Some transcript) = transcript ∷ []
 -- The machine has in its fields what is told: the entries, and the moves since the last one; for each session the open
 -- transaction with its operations and replies, which is the only one that is told of it, and as its next number how
 -- often it began one, up to the greatest number; those who wait at each commit proxy, the batch that it has in flight,
--- the acknowledged transactions with their spots, and the greatest version that was reported.
+-- the acknowledged transactions with their spots, the greatest version that was reported, and the window.
 pub record HasWhatIsTold (r : Readings) (m : Machine) : Type 0 where
   pub book : m.book ≡ r.book
   pub pending : m.pending ≡ r.pending
@@ -62,6 +62,7 @@ pub record HasWhatIsTold (r : Readings) (m : Machine) : Type 0 where
       → (commit_proxy.entry ≡ (r.sealed proxy).entry) × (commit_proxy.in_flight ≡ (r.sealed proxy).transcripts)
   pub acknowledged : m.acknowledged ≡ r.acknowledged
   pub committed : m.committed ≡ r.reported
+  pub window : m.window ≡ r.window
 
 -- a world that stands for a trace shows what the trace tells
 abbrev pub WorldsShowWhatIsTold : Type 0

@@ -1,11 +1,12 @@
 -- What holds of the machine between any two steps.
 use Rattle.std.specs.Prelude.{◌≡◌, ◌<◌, ◌≤◌, suc, true, false, length, map, Some, slice_get}
 use Rattle.std.specs.List.{AllByRecursion}
+use Rattle.fdb_txn.specs.Limits.{window}
 use Rattle.fdb_txn.specs.declared.entry.Entry.{Entry}
 use Rattle.fdb_txn.specs.declared.entry.Move.{Move}
 use Rattle.fdb_txn.specs.declared.txn_id.TxnId.{TxnId}
 use Rattle.fdb_txn.specs.book.Book.{seen_of, last_version}
-use Rattle.fdb_txn.specs.book.History.{AreEntries}
+use Rattle.fdb_txn.specs.book.History.{AreEntries, HorizonsRise}
 use Rattle.fdb_txn.specs.rules.SerialMap.{serial_map_at}
 use Rattle.fdb_client.specs.declared.program.Transcript.{Transcript}
 use Rattle.fdb_client.specs.Programs.{program, replies_of, exec, commit_request_of}
@@ -57,3 +58,5 @@ pub record Invariant (m : Machine) : Type 0 where
   pub acknowledged : AllByRecursion (IsSerializedIn m) m.acknowledged
   pub reported : AllByRecursion (IsReported m) m.acknowledged
   pub once : (id : TxnId) → IsOnce id m
+  pub horizons : HorizonsRise 0 m.book
+  pub window : (1 ≤ m.window) × (m.window ≤ window)

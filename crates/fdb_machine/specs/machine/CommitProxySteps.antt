@@ -5,7 +5,7 @@ use Rattle.fdb_keys.specs.declared.refusal.Refusal.{Refusal}
 use Rattle.fdb_keys.specs.declared.refusal.Refusal.TheVariants.{Unknown, Stale, NotYet, Exhausted, BookFull, WrongState}
 use Rattle.fdb_txn.specs.Limits.{place_limit, version_limit}
 use Rattle.fdb_txn.specs.declared.spot.Spot.TheVariants as spot
-use Rattle.fdb_txn.specs.book.Book.{last_version, seen_before}
+use Rattle.fdb_txn.specs.book.Book.{last_version, last_horizon, next_horizon, seen_before}
 use Rattle.fdb_sequencer.specs.Sequencer.{next_version}
 use Rattle.fdb_proxy.specs.declared.outcome.Outcome.{Outcome}
 use Rattle.fdb_proxy.specs.declared.outcome.Outcome.TheVariants as outcome
@@ -72,6 +72,7 @@ seals m proxy advance = found (slice_get m.commit_proxies proxy) (λ commit_prox
         book = m.book ++ record {
           version = version;
           prev = prev;
+          horizon = next_horizon (last_horizon m.book) m.window version;
           moves = m.pending;
           batch = map commit_request_of sealing;
         } ∷ [];

@@ -95,6 +95,7 @@ module _ (m : Machine) (failed : Failures) where
   uses_failed (step.Forget shard version) = is_set failed.shards shard
   uses_failed (step.Pop shard) = pulls_failed shard
   uses_failed (step.Move range to) = false
+  uses_failed (step.Window window) = false
 
 -- A step that uses a role that has failed is refused so, unless it names something that isn't there.
 abbrev pub unless_failed : Bool → Result Transition Refusal → Result Transition Refusal
@@ -127,3 +128,4 @@ FailsIn (step.Pull shard limit) old new = new ≡ record old { shards = slice_se
 FailsIn (step.Forget shard version) old new = ⊥
 FailsIn (step.Pop shard) old new = ⊥
 FailsIn (step.Move range to) old new = ⊥
+FailsIn (step.Window window) old new = ⊥

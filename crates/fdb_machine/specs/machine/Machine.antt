@@ -20,6 +20,8 @@ pub record Machine : Type 0 where
   pub decided : List Bool
   -- moves that take effect with the next entry
   pub pending : List Move
+  -- the window by which the next entry has its horizon
+  pub window : ℕ
   -- the commit proxies
   pub commit_proxies : List CommitProxy
   -- how many entries each resolver and each log took

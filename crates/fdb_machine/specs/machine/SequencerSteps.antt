@@ -4,8 +4,9 @@ use Rattle.fdb_keys.specs.Ranges.{Range, is_empty_range}
 use Rattle.fdb_keys.specs.declared.refusal.Refusal.{Refusal}
 use Rattle.fdb_keys.specs.declared.refusal.Refusal.TheVariants.{BadConfig, MovesFull}
 use Rattle.fdb_txn.specs.Limits.{move_limit}
+use Rattle.fdb_sequencer.specs.Sequencer.{set_window_fault}
 use Rattle.fdb_roles.specs.Entries.{moves_in}
-use Rattle.fdb_machine.specs.machine.Machine.{Machine, Transition, refused_where}
+use Rattle.fdb_machine.specs.machine.Machine.{Machine, Transition, refused_where, refused_by}
 use Rattle.fdb_machine.specs.declared.step.Answered.TheVariants as answered
 
 -- Move: the keys of the range go over to a resolver that exists, with the next entry.
@@ -17,3 +18,8 @@ moves m range to =
       answer = answered.Done;
       next = record m { pending = m.pending ++ record { range = range; to = to } ∷ [] };
     })))
+
+-- Window: from the next entry on an entry's horizon lies so far below its version, or stays where it would fall.
+unfoldable pub sets_window : Machine → ℕ → Result Transition Refusal
+sets_window m window = refused_by (set_window_fault window)
+    (Ok (record { answer = answered.Done; next = record m { window = window } }))

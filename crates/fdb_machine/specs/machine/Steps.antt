@@ -9,7 +9,7 @@ use Rattle.fdb_machine.specs.machine.GrvProxySteps.{asks, grants}
 use Rattle.fdb_machine.specs.machine.CommitProxySteps.{seals, receives, decides, reports, answers}
 use Rattle.fdb_machine.specs.machine.Roles.{FromResolver, FromLog}
 use Rattle.fdb_machine.specs.machine.RoleSteps.{resolves, pushes, pulls, forgets, pops}
-use Rattle.fdb_machine.specs.machine.SequencerSteps.{moves}
+use Rattle.fdb_machine.specs.machine.SequencerSteps.{moves, sets_window}
 use Rattle.fdb_machine.specs.machine.AnyStep.{Step}
 use Rattle.fdb_machine.specs.declared.step.AnyStep.TheVariants as step
 use Rattle.fdb_machine.specs.declared.step.Answered.{Answered}
@@ -36,6 +36,7 @@ next m (step.Pull shard limit) = pulls m shard limit
 next m (step.Forget shard version) = forgets m shard version
 next m (step.Pop shard) = pops m shard
 next m (step.Move range to) = moves m range to
+next m (step.Window window) = sets_window m window
 
 -- what a transition answers
 abbrev pub answer_of : Result Transition Refusal → Result Answered Refusal

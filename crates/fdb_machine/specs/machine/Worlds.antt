@@ -4,6 +4,7 @@ use Rattle.std.specs.Prelude.{◌≡◌, ◌⊎◌, suc, List, [], ◌∷◌, le
 use Rattle.std.specs.FinMap.{empty}
 use Rattle.fdb_keys.specs.declared.refusal.Refusal.{Refusal}
 use Rattle.fdb_keys.specs.declared.refusal.Refusal.TheVariants.{NoMemory}
+use Rattle.fdb_txn.specs.Limits.{window}
 use Rattle.fdb_proxy.specs.declared.config.Config.{Config}
 use Rattle.fdb_machine.specs.machine.Roles.{CommitProxy, Idle}
 use Rattle.fdb_machine.specs.machine.Failures.{State, FailsIn, none_failed, uses_failed, unless_failed}
@@ -26,6 +27,7 @@ start config =
       entry_proxies = [];
       decided = [];
       pending = [];
+      window = window;
       commit_proxies = replicate config.proxies idle_proxy;
       resolvers = replicate (suc (length config.resolver_splits)) 0;
       logs = replicate config.logs 0;

@@ -18,7 +18,7 @@ use Rattle.fdb_play.specs.declared.script.step_line.Kind.TheVariants.{Ask, Grant
 use Rattle.fdb_play.specs.declared.script.step_line.Kind.TheVariants.{SnapshotRange}
 use Rattle.fdb_play.specs.declared.script.step_line.Kind.TheVariants.{Write, AddRead, AddWrite, Submit, Seal, Resolve}
 use Rattle.fdb_play.specs.declared.script.step_line.Kind.TheVariants.{Verdict, Decide, Push, Logged, Report, Answer}
-use Rattle.fdb_play.specs.declared.script.step_line.Kind.TheVariants.{Pull, Forget, Pop, Move}
+use Rattle.fdb_play.specs.declared.script.step_line.Kind.TheVariants.{Pull, Forget, Pop, Move, Window}
 use Rattle.fdb_play.proofs.lemmas.Faults.{Reads-whole}
 use Rattle.fdb_play.proofs.lemmas.Words.{after_first, first_of}
 
@@ -65,7 +65,8 @@ kind_of_letters n =
     (if n == 1718579815 then Forget else
     (if n == 1886351360 then Pop else
     (if n == 1836021349 then Move else
-    Pull)))))))))))))))))))))
+    (if n == 2003398244 then Window else
+    Pull))))))))))))))))))))))
 
 kind_of_name : (kind : Kind) → kind_of_letters (letters_of (name_of kind)) ≡ kind
 unfolding letters_of
@@ -91,6 +92,7 @@ kind_of_name Pull = refl
 kind_of_name Forget = refl
 kind_of_name Pop = refl
 kind_of_name Move = refl
+kind_of_name Window = refl
 
 -- no two kinds have one name
 same_kind : (kind other : Kind) → name_of kind ≡ name_of other → kind ≡ other

@@ -65,7 +65,7 @@ has_place refusal.NoTransaction = omega arith
 has_place refusal.Unknown = omega arith
 
 -- each kind has its place
-known_kind : {K R M : Type 0} (act : AnyStep K R M) → kind_of act < 22
+known_kind : {K R M : Type 0} (act : AnyStep K R M) → kind_of act < 23
 known_kind (step.Ask session proxy) = omega arith
 known_kind (step.Grant proxy) = omega arith
 known_kind (step.Get session key true) = omega arith
@@ -88,63 +88,79 @@ known_kind (step.Pull shard limit) = omega arith
 known_kind (step.Forget shard version) = omega arith
 known_kind (step.Pop shard) = omega arith
 known_kind (step.Move range to) = omega arith
+known_kind (step.Window window) = omega arith
 
 -- what is counted of steps stays, whatever else is
 abbrev KeepsSteps : Tally → Tally → Type 0
-KeepsSteps old new = (new.refused ≡ old.refused) × (new.accepted ≡ old.accepted) × (new.refusals ≡ old.refusals)
+KeepsSteps old new =
+    (new.refused ≡ old.refused) × (new.accepted ≡ old.accepted) × (new.refusals ≡ old.refusals)
+    × (new.refused_kinds ≡ old.refused_kinds)
 
 outcome_keeps : (tally : Tally) (told : Outcome) → KeepsSteps tally (noting_outcome tally told)
-outcome_keeps tally (outcome.Commit version place) = (refl, refl, refl)
-outcome_keeps tally outcome.Conflict = (refl, refl, refl)
-outcome_keeps tally outcome.Old = (refl, refl, refl)
+outcome_keeps tally (outcome.Commit version place) = (refl, refl, refl, refl)
+outcome_keeps tally outcome.Conflict = (refl, refl, refl, refl)
+outcome_keeps tally outcome.Old = (refl, refl, refl, refl)
 
 outcomes_keep : (tally : Tally) (told : List (ℕ × Outcome)) → KeepsSteps tally (noting_outcomes tally told)
-outcomes_keep tally [] = (refl, refl, refl)
+outcomes_keep tally [] = (refl, refl, refl, refl)
 outcomes_keep tally (one ∷ more) =
     let first = outcome_keeps tally one.1 in
     let rest = outcomes_keep (noting_outcome tally one.1) more in
-    (rest.0 ∙ first.0, rest.1 ∙ first.1, rest.2 ∙ first.2)
+    (rest.0 ∙ first.0, rest.1 ∙ first.1, rest.2 ∙ first.2, rest.3 ∙ first.3)
 
 answer_keeps : (tally : Tally) (answer : Answered) → KeepsSteps tally (noting_answer tally answer)
 answer_keeps tally (answered.Answers told) = outcomes_keep tally told
-answer_keeps tally answered.Done = (refl, refl, refl)
-answer_keeps tally (answered.Granted served) = (refl, refl, refl)
-answer_keeps tally (answered.Value value) = (refl, refl, refl)
-answer_keeps tally (answered.Pairs pairs) = (refl, refl, refl)
-answer_keeps tally (answered.ReadOnly version) = (refl, refl, refl)
-answer_keeps tally (answered.Issued index version prev places) = (refl, refl, refl)
-answer_keeps tally (answered.Verdicts verdicts) = (refl, refl, refl)
-answer_keeps tally (answered.Decided outcomes) = (refl, refl, refl)
-answer_keeps tally (answered.Version version) = (refl, refl, refl)
+answer_keeps tally answered.Done = (refl, refl, refl, refl)
+answer_keeps tally (answered.Granted served) = (refl, refl, refl, refl)
+answer_keeps tally (answered.Value value) = (refl, refl, refl, refl)
+answer_keeps tally (answered.Pairs pairs) = (refl, refl, refl, refl)
+answer_keeps tally (answered.ReadOnly version) = (refl, refl, refl, refl)
+answer_keeps tally (answered.Issued index version prev places) = (refl, refl, refl, refl)
+answer_keeps tally (answered.Verdicts verdicts) = (refl, refl, refl, refl)
+answer_keeps tally (answered.Decided outcomes) = (refl, refl, refl, refl)
+answer_keeps tally (answered.Version version) = (refl, refl, refl, refl)
 
--- there is a count for each kind, and for each code
+-- there is a count for each kind, of either answer, and for each code
 abbrev HasCounts : Tally → Type 0
-HasCounts tally = (length tally.accepted ≡ 22) × (length tally.refusals ≡ 26)
+HasCounts tally =
+    (length tally.accepted ≡ 23) × (length tally.refusals ≡ 26) × (length tally.refused_kinds ≡ 23)
 
 note_counts : (tally : Tally) (kind : ℕ) (answer : Result Answered Refusal) → HasCounts tally
     → HasCounts (noting tally kind answer)
 note_counts tally kind (Ok answer) has =
-    let keeps = answer_keeps (record tally { accepted = raised_at tally.accepted kind }) answer in
-    (ap length keeps.1 ∙ length-set tally.accepted kind _ ∙ has.0, ap length keeps.2 ∙ has.1)
-note_counts tally kind (Err why) has = (has.0, length-set tally.refusals (place_of (code_of why)) _ ∙ has.1)
+    let keeps = answer_keeps (record tally { accepted = raised_at tally.accepted kind }) answer in (
+      ap length keeps.1 ∙ length-set tally.accepted kind _ ∙ has.0,
+      ap length keeps.2 ∙ has.1,
+      ap length keeps.3 ∙ has.2,
+    )
+note_counts tally kind (Err why) has = (
+  has.0,
+  length-set tally.refusals (place_of (code_of why)) _ ∙ has.1,
+  length-set tally.refused_kinds kind _ ∙ has.2,
+)
 
 -- one more step is counted
-note_step : (steps : ℕ) (tally : Tally) (kind : ℕ) (answer : Result Answered Refusal) → HasCounts tally → kind < 22
+note_step : (steps : ℕ) (tally : Tally) (kind : ℕ) (answer : Result Answered Refusal) → HasCounts tally → kind < 23
     → steps < 4294967295 → AreCounted steps tally → AreCounted (suc steps) (noting tally kind answer)
 note_step steps tally kind (Ok answer) has known below counted =
     let keeps = answer_keeps (record tally { accepted = raised_at tally.accepted kind }) answer in
-    let more = sum_raised tally.accepted kind (omega (arith, has.0)) (omega (arith, counted.0)) in
-    (omega (arith, keeps.0, ap sum keeps.1, more, counted.0), ap sum keeps.2 ∙ counted.1 ∙ sym keeps.0)
+    let more = sum_raised tally.accepted kind (omega (arith, has.0)) (omega (arith, counted.0)) in (
+      omega (arith, keeps.0, ap sum keeps.1, more, counted.0),
+      ap sum keeps.2 ∙ counted.1 ∙ sym keeps.0,
+      ap sum keeps.3 ∙ counted.2 ∙ sym keeps.0,
+    )
 note_step steps tally kind (Err why) has known below counted =
     let more = sum_raised tally.refusals (place_of (code_of why)) (omega (arith, has_place why, has.1))
     (omega (arith, counted.0, counted.1)) in
+    let kinds = sum_raised tally.refused_kinds kind (omega (arith, known, has.2))
+    (omega (arith, counted.0, counted.2)) in
     let one = one_more tally.refused (omega (arith, counted.0)) in
-    (omega (arith, one, counted.0), omega (arith, one, more, counted.1))
+    (omega (arith, one, counted.0), omega (arith, one, more, counted.1), omega (arith, one, kinds, counted.2))
 
 -- the steps of a run are counted
 pub count_steps : (steps : ℕ) (old : State) (new : State) (tally : Tally) → steps < 4294967296
     → CountsSteps steps old new tally → HasCounts tally × AreCounted steps tally
-count_steps zero old new tally below counts = rw counts.1 ((refl, refl), (refl, refl))
+count_steps zero old new tally below counts = rw counts.1 ((refl, refl, refl), (refl, refl, refl))
 count_steps (suc steps) old new tally below counts =
     let one = counts.3 in
     let before = count_steps steps old counts.0 counts.1 (omega (arith, below)) counts.2 in

@@ -34,22 +34,23 @@ batch_answers = (0, Commit 7000 0) ∷ (3, Conflict) ∷ (1, Old) ∷ (2, Commit
 abbrev pub answered_batch : Tally
 answered_batch = noting no_tally 17 (Ok (Answers batch_answers))
 
--- What is counted of an answer of each kind: a refusal is counted with its code, and not by the step's kind; an
--- accepted step by its kind, with each transaction that it ends by its outcome.
+-- What is counted of an answer of each kind: a refusal is counted with its code and with the step's kind; an accepted
+-- step by its kind, with each transaction that it ends by its outcome.
 abbrev pub WorkedNotes : Type 0
 WorkedNotes =
-    (refused_write ≡ record no_tally { refused = 1; refusals = one_at 12 13 })
-    × (noting no_tally 6 (Ok Done) ≡ record no_tally { accepted = one_at 6 15 })
-    × (noting no_tally 16 (Ok (Version 7000)) ≡ record no_tally { accepted = one_at 16 5 })
-    × (noting no_tally 9 (Ok (ReadOnly 7000)) ≡ record no_tally { accepted = one_at 9 12; read_only = 1 })
-    × (answered_batch ≡ record no_tally { accepted = one_at 17 4; committed = 2; conflicting = 1; too_old = 1 })
+    (refused_write ≡ record no_tally { refused = 1; refusals = one_at 12 13; refused_kinds = one_at 6 16 })
+    × (noting no_tally 6 (Ok Done) ≡ record no_tally { accepted = one_at 6 16 })
+    × (noting no_tally 16 (Ok (Version 7000)) ≡ record no_tally { accepted = one_at 16 6 })
+    × (noting no_tally 9 (Ok (ReadOnly 7000)) ≡ record no_tally { accepted = one_at 9 13; read_only = 1 })
+    × (answered_batch ≡ record no_tally { accepted = one_at 17 5; committed = 2; conflicting = 1; too_old = 1 })
     × (refused_write ≢ no_tally)
     × (refused_write ≢ record no_tally { refused = 1 })
+    × (refused_write ≢ noting no_tally 7 (Err Stale))
     × (refused_write ≢ noting no_tally 6 (Err Unknown))
     × (refused_write ≢ noting no_tally 6 (Ok Done))
-    × (noting no_tally 9 (Ok (ReadOnly 7000)) ≢ record no_tally { accepted = one_at 9 12; committed = 1 })
+    × (noting no_tally 9 (Ok (ReadOnly 7000)) ≢ record no_tally { accepted = one_at 9 13; committed = 1 })
 
--- Which steps are counted: each of them once, a refused one with its code.
+-- Which steps are counted: each of them once, a refused one with its code and its kind.
 abbrev pub WorkedSteps : Type 0
 WorkedSteps =
     AreCounted 0 no_tally
@@ -58,6 +59,7 @@ WorkedSteps =
     × (AreCounted 1 no_tally → ⊥)
     × (AreCounted 0 refused_write → ⊥)
     × (AreCounted 1 (record no_tally { refused = 1 }) → ⊥)
+    × (AreCounted 1 (record refused_write { refused_kinds = no_tally.refused_kinds }) → ⊥)
     × ((old : State) (new : State) → CountsSteps 1 old new no_tally → ⊥)
 
 -- Transactions in conflict and those that are too old are aborted, and read-only ones are acknowledged too.

@@ -52,6 +52,7 @@ kind_of (step.Pull shard limit) = 18
 kind_of (step.Forget shard version) = 19
 kind_of (step.Pop shard) = 20
 kind_of (step.Move range to) = 21
+kind_of (step.Window window) = 22
 
 -- of no step
 abbrev pub no_tally : Tally
@@ -61,8 +62,9 @@ no_tally = record {
   read_only = 0;
   conflicting = 0;
   too_old = 0;
-  accepted = replicate 22 0;
+  accepted = replicate 23 0;
   refusals = replicate 26 0;
+  refused_kinds = replicate 23 0;
 }
 
 -- one more transaction of which this became
@@ -83,14 +85,18 @@ noting_answer tally (answered.Answers told) = noting_outcomes tally told
 noting_answer tally other = tally
 
 -- One more step of the kind that is answered so. It is counted as accepted, with the transactions that it ends, or as
--- refused, with the code of its refusal, and nothing else changes.
+-- refused, with the code of its refusal and with its kind, and nothing else changes.
 abbrev pub noting : Tally → ℕ → Result Answered Refusal → Tally
 noting tally kind (Ok answer) = noting_answer (record tally { accepted = raised_at tally.accepted kind }) answer
 noting tally kind (Err refusal) = record tally {
   refused = raised tally.refused;
   refusals = raised_at tally.refusals (place_of (code_of refusal));
+  refused_kinds = raised_at tally.refused_kinds kind;
 }
 
--- So many steps are counted, each as refused or as accepted with its kind, and each refused one with its code.
+-- So many steps are counted, each as refused or as accepted with its kind, and each refused one with its code and its
+-- kind.
 abbrev pub AreCounted : ℕ → Tally → Type 0
-AreCounted steps tally = (tally.refused + sum tally.accepted ≡ steps) × (sum tally.refusals ≡ tally.refused)
+AreCounted steps tally =
+    (tally.refused + sum tally.accepted ≡ steps) × (sum tally.refusals ≡ tally.refused)
+    × (sum tally.refused_kinds ≡ tally.refused)

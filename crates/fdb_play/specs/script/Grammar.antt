@@ -19,7 +19,7 @@ use Rattle.fdb_play.specs.declared.script.step_line.Kind.TheVariants.{Write}
 use Rattle.fdb_play.specs.declared.script.step_line.Kind.TheVariants.{AddRead, AddWrite, Submit, Seal, Resolve, Verdict}
 use Rattle.fdb_play.specs.declared.script.step_line.Kind.TheVariants.{Decide, Push, Logged, Report, Answer, Pull}
 use Rattle.fdb_play.specs.declared.script.step_line.Kind.TheVariants.{Forget}
-use Rattle.fdb_play.specs.declared.script.step_line.Kind.TheVariants.{Pop, Move}
+use Rattle.fdb_play.specs.declared.script.step_line.Kind.TheVariants.{Pop, Move, Window}
 use Rattle.fdb_play.specs.declared.script.step_line.Kind.TheVariants as line_kind
 use Rattle.fdb_play.specs.declared.script.keys.RangeRead.{RangeRead}
 use Rattle.fdb_play.specs.declared.script.keys.RangeTarget.{RangeTarget}
@@ -42,6 +42,10 @@ WritesText word bytes = value_of word ≡ Some bytes
 -- the words are one number below 2^32
 abbrev pub WritesOne : List (List ℕ) → ℕ → Type 0
 WritesOne words a = (x : List ℕ) × (words ≡ x ∷ []) × WritesSmall x a
+
+-- the words are one number below 2^64
+abbrev pub WritesOneNumber : List (List ℕ) → ℕ → Type 0
+WritesOneNumber words a = (x : List ℕ) × (words ≡ x ∷ []) × WritesNumber x a
 
 -- the words are two numbers below 2^32
 abbrev pub WritesTwo : List (List ℕ) → ℕ → ℕ → Type 0
@@ -152,6 +156,7 @@ WritesRest Forget words step = (shard : ℕ) × (version : ℕ) × WritesSmallAn
 WritesRest Pop words step = (shard : ℕ) × WritesOne words shard × (step ≡ made.Pop shard)
 WritesRest Move words step = (target : RangeTarget) × WritesTarget words target
     × (step ≡ made.Move target.range target.to)
+WritesRest Window words step = (window : ℕ) × WritesOneNumber words window × (step ≡ made.Window window)
 
 -- the words are the kind's name and then words that write the step
 abbrev pub WritesStep : List (List ℕ) → Kind → Step → Type 0
@@ -205,6 +210,7 @@ step_fault (made.Pull shard limit) = None
 step_fault (made.Forget shard version) = None
 step_fault (made.Pop shard) = None
 step_fault (made.Move range to) = bounds_fault range
+step_fault (made.Window window) = None
 
 -- why the key or range of the line's step, if it has one, is none
 abbrev pub read_fault : Line → Option Refusal

@@ -5,7 +5,7 @@ use Rattle.fdb_play.specs.declared.script.step_line.Kind.TheVariants.{Ask, Grant
 use Rattle.fdb_play.specs.declared.script.step_line.Kind.TheVariants.{SnapshotRange}
 use Rattle.fdb_play.specs.declared.script.step_line.Kind.TheVariants.{Write, AddRead, AddWrite, Submit, Seal, Resolve}
 use Rattle.fdb_play.specs.declared.script.step_line.Kind.TheVariants.{Verdict, Decide, Push, Logged, Report, Answer}
-use Rattle.fdb_play.specs.declared.script.step_line.Kind.TheVariants.{Pull, Forget, Pop, Move}
+use Rattle.fdb_play.specs.declared.script.step_line.Kind.TheVariants.{Pull, Forget, Pop, Move, Window}
 
 -- the word that names the kind
 abbrev pub name_of : Kind → List ℕ
@@ -31,3 +31,4 @@ name_of Pull = codes "pull"
 name_of Forget = codes "forget"
 name_of Pop = codes "pop"
 name_of Move = codes "move"
+name_of Window = codes "window"

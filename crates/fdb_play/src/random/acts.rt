@@ -46,7 +46,7 @@ pub enum Change {
 pub type Act = AnyStep<u32, Span, Change>;
 
 /// How many kinds of steps there are.
-pub const KINDS: usize = 22;
+pub const KINDS: usize = 23;
 
 /// The place of the step's kind among all kinds, in the order of `Act`. A read of a snapshot is another kind, behind
 /// that of the other reads.
@@ -82,6 +82,7 @@ pub fn kind_of(act: Act) -> usize
         Act::Forget { .. } => 19,
         Act::Pop { .. } => 20,
         Act::Move { .. } => 21,
+        Act::Window { .. } => 22,
     }
 }
 
@@ -254,5 +255,6 @@ pub fn take(world: &mut World, alloc: Global, act: Act) -> Result<Answered, Refu
         Act::Forget { shard, version } => world.step(Step::Forget { shard, version }),
         Act::Pop { shard } => world.step(Step::Pop { shard }),
         Act::Move { range, to } => move_to(world, alloc, range, to),
+        Act::Window { window } => world.step(Step::Window { window }),
     }
 }

@@ -356,16 +356,28 @@ impl Drawing {
     }
 
     fn stray_proxy(&mut self, proxy: u32) -> Act {
-        match self.below(5) {
+        match self.below(6) {
             0 => self.seal(proxy),
             1 => Act::Decide { proxy },
             2 => Act::Report { proxy },
             3 => Act::Answer { proxy },
+            4 => self.window(),
             _ => Act::Move {
                 range: self.span(),
                 to: self.some_of(RESOLVERS),
             },
         }
+    }
+
+    // The window is at times one of a few entries, mostly the greatest one, and at times none.
+    fn window(&mut self) -> Act {
+        let window = match self.below(16) {
+            0 => 0,
+            1 => 5_000_001,
+            2..=7 => u64::from(self.below(300)).saturating_add(1),
+            _ => 5_000_000,
+        };
+        Act::Window { window }
     }
 
     fn stray_message(&mut self, world: &World) -> Act {

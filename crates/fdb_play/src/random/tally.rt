@@ -34,6 +34,8 @@ pub struct Tally {
     pub accepted: [u32; KINDS],
     /// How many steps were refused with each code, in the order of `CODES`.
     pub refusals: [u32; REFUSALS],
+    /// How many steps of each kind were refused.
+    pub refused_kinds: [u32; KINDS],
 }
 
 impl Tally {
@@ -49,6 +51,7 @@ impl Tally {
             too_old: 0,
             accepted: [0; KINDS],
             refusals: [0; REFUSALS],
+            refused_kinds: [0; KINDS],
         }
     }
 
@@ -61,18 +64,20 @@ impl Tally {
                 raise_at(self.accepted.as_mut_slice(), kind_of(act));
                 self.note_answered(answered);
             }
-            Err(why) => self.note_refusal(*why),
+            Err(why) => self.note_refusal(kind_of(act), *why),
         }
     }
 
-    fn note_refusal(&mut self, why: Refusal)
+    fn note_refusal(&mut self, kind: usize, why: Refusal)
         ensures { self.new ≡ record self.old {
           refused = raised self.old.refused;
           refusals = raised_at self.old.refusals (place_of (code_of why));
+          refused_kinds = raised_at self.old.refused_kinds kind;
         } }
     {
         raise(&mut self.refused);
         raise_at(self.refusals.as_mut_slice(), place_of(why.code()));
+        raise_at(self.refused_kinds.as_mut_slice(), kind);
     }
 
     fn note_answered(&mut self, answered: &Answered)

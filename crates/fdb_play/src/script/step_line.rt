@@ -38,10 +38,11 @@ pub enum Kind {
     Forget,
     Pop,
     Move,
+    Window,
 }
 
 /// All kinds of lines.
-const KINDS: [Kind; 22] = [
+const KINDS: [Kind; 23] = [
     Kind::Ask,
     Kind::Grant,
     Kind::Get,
@@ -64,6 +65,7 @@ const KINDS: [Kind; 22] = [
     Kind::Forget,
     Kind::Pop,
     Kind::Move,
+    Kind::Window,
 ];
 
 impl Kind {
@@ -94,6 +96,7 @@ impl Kind {
             Kind::Forget => b"forget",
             Kind::Pop => b"pop",
             Kind::Move => b"move",
+            Kind::Window => b"window",
         }
     }
 }
@@ -148,6 +151,7 @@ fn read_words(alloc: Global, kind: Kind, words: &mut Words<'_>) -> Result<Step, 
         Kind::Forget => read_forget(words),
         Kind::Pop => read_pop(words),
         Kind::Move => read_move(alloc, words),
+        Kind::Window => read_window(words),
     }
 }
 
@@ -312,4 +316,12 @@ fn read_move(alloc: Global, words: &mut Words<'_>) -> Result<Step, Fault>
 {
     let RangeTarget { range, to } = last_target(alloc, words)?;
     Ok(Step::Move { range, to })
+}
+
+fn read_window(words: &mut Words<'_>) -> Result<Step, Fault>
+    ensures { Reads result (WritesRest Kind.Window words.old) step_fault }
+{
+    let window = words.number()?;
+    words.end()?;
+    Ok(Step::Window { window })
 }

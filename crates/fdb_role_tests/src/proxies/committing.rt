@@ -1,5 +1,5 @@
 // A commit proxy with two logs: the second resolver owns the keys from m on, the second shard has those from a on.
-ghost use Rattle.std.specs.Prelude.{◌≡◌, ◌<◌, [], length, IfOk};
+ghost use Rattle.std.specs.Prelude.{◌≡◌, ◌<◌, ◌≤◌, [], length, IfOk};
 ghost use Rattle.std.specs.List.{AllByRecursion};
 ghost use Rattle.fdb_txn.specs.book.Transactions.{Transaction};
 ghost use Rattle.fdb_proxy.specs.CommitProxies.{CommitProxy, IsTicketFor};
@@ -170,6 +170,7 @@ const ASKING: &[&[(Act, Told)]] = &[
 fn new_core(alloc: Global) -> Result<CommitCore, Refusal>
     ensures batch { IfOk result (λ core. core.proxy.batch ≡ []) }
     ensures waiting { IfOk result (λ core. core.proxy.waiting ≡ []) }
+    ensures floor { IfOk result (λ core. core.proxy.owners.floor ≡ 0) }
 {
     match split_config(keys_of(alloc, &[b"m"]), keys_of(alloc, &[b"a"])) {
         Ok(mut config) => {
@@ -196,6 +197,7 @@ fn submit(core: &mut CommitCore, alloc: Global, session: u32) -> Result<(), Refu
     ensures one { IfOk result (λ _. core.old.proxy.waiting ≡ [] → length core.new.proxy.waiting ≡ 1) }
     ensures early { IfOk result (λ _. core.old.proxy.waiting ≡ []
         → AllByRecursion (λ (t : Transaction). t.read < 100) core.new.proxy.waiting) }
+    ensures floor { IfOk result (λ _. core.new.proxy.owners.floor ≡ core.old.proxy.owners.floor) }
 {
     let sealed = sealed(alloc, session)?;
     match core.submit(sealed) {
@@ -208,7 +210,8 @@ fn submit(core: &mut CommitCore, alloc: Global, session: u32) -> Result<(), Refu
 #[tactic(auto, using(std::proofs::lemmas::List::take_all))]
 fn seal_one(core: &mut CommitCore) -> Result<(), Refusal>
     requires { length core.old.proxy.waiting ≡ 1 }
-    ensures { IfOk result (λ _. core.new.proxy.batch ≡ core.old.proxy.waiting) }
+    ensures batch { IfOk result (λ _. core.new.proxy.batch ≡ core.old.proxy.waiting) }
+    ensures floor { IfOk result (λ _. core.new.proxy.owners.floor ≡ core.old.proxy.owners.floor) }
 {
     let _batch = core.seal()?;
     Ok(())
@@ -217,7 +220,8 @@ fn seal_one(core: &mut CommitCore) -> Result<(), Refusal>
 /// What is learnt of the first entry, at version 100.
 pub fn ticket(alloc: Global) -> Result<Ticket, Refusal>
     ensures { IfOk result (λ ticket. (p : CommitProxy)
-        → AllByRecursion (λ (t : Transaction). t.read < 100) p.batch → IsTicketFor p ticket) }
+        → AllByRecursion (λ (t : Transaction). t.read < 100) p.batch → p.owners.floor ≤ ticket.horizon
+        → IsTicketFor p ticket) }
 {
     let pending = shared(alloc, Items::new(alloc))?;
     Ok(Ticket {
@@ -225,6 +229,7 @@ pub fn ticket(alloc: Global) -> Result<Ticket, Refusal>
         index: 0,
         version: 100,
         prev: 0,
+        horizon: 0,
         moves: Items::new(alloc),
         pending,
     })
@@ -233,7 +238,8 @@ pub fn ticket(alloc: Global) -> Result<Ticket, Refusal>
 // The transaction of session 4 alone is the batch.
 fn seal_four(core: &mut CommitCore, alloc: Global) -> Result<(), Refusal>
     requires { core.old.proxy.waiting ≡ [] }
-    ensures { IfOk result (λ _. AllByRecursion (λ (t : Transaction). t.read < 100) core.new.proxy.batch) }
+    ensures batch { IfOk result (λ _. AllByRecursion (λ (t : Transaction). t.read < 100) core.new.proxy.batch) }
+    ensures floor { IfOk result (λ _. core.new.proxy.owners.floor ≡ core.old.proxy.owners.floor) }
 {
     submit(core, alloc, 4)?;
     seal_one(core)?;
@@ -242,7 +248,8 @@ fn seal_four(core: &mut CommitCore, alloc: Global) -> Result<(), Refusal>
 
 // It waits for verdicts then.
 fn learn_one(core: &mut CommitCore, alloc: Global) -> Result<(), Refusal>
-    requires { core.old.proxy.waiting ≡ [] }
+    requires waiting { core.old.proxy.waiting ≡ [] }
+    requires floor { core.old.proxy.owners.floor ≡ 0 }
 {
     let ticket = ticket(alloc)?;
     seal_four(core, alloc)?;
@@ -251,7 +258,8 @@ fn learn_one(core: &mut CommitCore, alloc: Global) -> Result<(), Refusal>
 
 // Whether the parts are those that are asked for then.
 fn learns_with_parts(core: &mut CommitCore, alloc: Global) -> Result<bool, Refusal>
-    requires { core.old.proxy.waiting ≡ [] }
+    requires waiting { core.old.proxy.waiting ≡ [] }
+    requires floor { core.old.proxy.owners.floor ≡ 0 }
 {
     let ticket = ticket(alloc)?;
     seal_four(core, alloc)?;
@@ -260,7 +268,8 @@ fn learns_with_parts(core: &mut CommitCore, alloc: Global) -> Result<bool, Refus
 
 /// A proxy whose batch, of the transaction of session 4 alone, waits for its ticket.
 pub fn sealed_core(alloc: Global) -> Result<CommitCore, Refusal>
-    ensures { IfOk result (λ core. AllByRecursion (λ (t : Transaction). t.read < 100) core.proxy.batch) }
+    ensures batch { IfOk result (λ core. AllByRecursion (λ (t : Transaction). t.read < 100) core.proxy.batch) }
+    ensures floor { IfOk result (λ core. core.proxy.owners.floor ≡ 0) }
 {
     match new_core(alloc) {
         Ok(mut core) => match seal_four(&mut core, alloc) {

@@ -149,8 +149,9 @@ impl<B: ClusterName> PullMachine<B> {
         };
     }
 
-    /// The shard forgets what lies more than the window below the committed version, if it has come that far. Before
-    /// the log has dropped what was applied nothing changes. It takes no memory, and the time of `ShardState::forget`.
+    /// The shard forgets what lies more than the greatest window below the committed version, if it has come that far.
+    /// Before the log has dropped what was applied nothing changes. It takes no memory, and the time of
+    /// `ShardState::forget`.
     pub fn forget_in(&mut self, shard: &mut ShardState<B>, committed: u64)
         ensures forgot { HasLetForget self.old committed shard.old.at shard.new.at self.new }
         ensures ended { shard.new.ended ≡ shard.old.ended }

@@ -412,10 +412,10 @@ impl<B: ClusterName> CommitProxyAt<B> {
     /// either: the ticket is compared with the front, and the front with the own one.
     ///
     /// Refused as `Failed`; as `Unknown` unless the front goes on behind the own one, its last entry has the ticket's
-    /// number, version and previous version and the transactions of the batch, and the ticket tells the moves of all
-    /// entries behind the own front; and as `WrongState` unless a batch is sealed. Then nothing changes but the room. A
-    /// ticket that was learnt before is unknown, so none is `Stale`. Refused as `NoMemory` too: then the proxy has
-    /// failed, and keeps the batch, whose entry stands. It takes O(n) time for n ranges and mutations of the batch,
+    /// number, version, previous version and horizon and the transactions of the batch, and the ticket tells the moves
+    /// of all entries behind the own front; and as `WrongState` unless a batch is sealed. Then nothing changes but the
+    /// room. A ticket that was learnt before is unknown, so none is `Stale`. Refused as `NoMemory` too: then the proxy
+    /// has failed, and keeps the batch, whose entry stands. It takes O(n) time for n ranges and mutations of the batch,
     /// moves of the ticket, and entries behind the own front, beside what the state takes.
     pub(crate) fn learn(&mut self, ticket: &Ticket, front: KnownFront<B>) -> Result<(), Refusal>
         ensures answers { AnswersTicket result self.old.front front self.old.state.proxy ticket.now }
@@ -429,6 +429,7 @@ impl<B: ClusterName> CommitProxyAt<B> {
         }
         self.front.know_one_book(&front);
         front.know_entries();
+        front.know_horizons();
         self.state.learn(ticket)?;
         self.front = front;
         Ok(())

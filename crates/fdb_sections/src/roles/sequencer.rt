@@ -6,6 +6,7 @@ ghost use Rattle.fdb_txn.specs.book.Transactions.{Transaction};
 ghost use Rattle.fdb_book.specs.Appending.{append_fault};
 ghost use Rattle.fdb_sequencer.specs.Sequencer.{new_fault, fresh, plan_fault, planned, accept_fault, accepting};
 ghost use Rattle.fdb_sequencer.specs.Sequencer.{report_fault, reporting, move_fault, moving};
+ghost use Rattle.fdb_sequencer.specs.Sequencer.{set_window_fault, windowing};
 ghost use Rattle.fdb_roles.specs.AtBook.{AreLastOf};
 ghost use Rattle.fdb_roles.specs.Entries.{dated_moves, entry_of};
 ghost use Rattle.fdb_sections.specs.Issuing.{AnswersIssue};
@@ -228,6 +229,16 @@ impl<B: ClusterName> SequencerAt<B> {
     {
         self.state.move_to(one_move)
     }
+
+    /// Sets the window, by which the horizons of the next entry and of later ones are made. It takes no memory, and
+    /// O(1) time. Refused as `BadConfig` unless the window is 1 to 5,000,000, and then nothing changes.
+    pub fn set_window(&mut self, window: u64) -> Result<(), Refusal>
+        ensures answers { AnswersExactly result (set_window_fault window)
+            (λ _. self.new ≡ record { front = self.old.front; state = windowing self.old.state window }) }
+        ensures refused { OnErr result (self.new ≡ self.old) }
+    {
+        self.state.set_window(window)
+    }
 }
 
 // The entry that the ticket gives the batch. Refused only as `NoMemory`.
@@ -238,6 +249,7 @@ fn entry_for(ticket: &Ticket, batch: Batch) -> Result<Entry, Refusal>
     Ok(Entry {
         version: ticket.version,
         prev: ticket.prev,
+        horizon: ticket.horizon,
         moves,
         batch,
     })

@@ -14,12 +14,16 @@ fn has_refused(tally: &Tally, code: u32) -> bool {
         .any(|(known, count)| *known == code && *count > 0)
 }
 
+// Where steps that set the window are counted among all kinds.
+const WINDOWS: usize = 22;
+
 // How often this or that came that each run should have: steps of each kind that were accepted, of which the reads of a
-// snapshot are two, refusals of the usual codes, and each outcome of a transaction.
+// snapshot are two, refusals of the usual codes, windows that were refused, and each outcome of a transaction.
 fn has_all(tally: &Tally) -> bool {
     let codes = [1009, 9002, 9003, 9014, 9016];
     tally.accepted.iter().all(|count| *count > 0)
         && codes.iter().all(|code| has_refused(tally, *code))
+        && tally.refused_kinds[WINDOWS] > 0
         && tally.committed > 20
         && tally.read_only > 0
         && tally.conflicting > 0
@@ -33,11 +37,12 @@ fn sum_of(counts: &[u32]) -> u64 {
         .fold(0, |sum: u64, count| sum.saturating_add(u64::from(*count)))
 }
 
-// Whether each step is counted once, a refused one with its code, and the report says what is counted.
+// Whether each step is counted once, a refused one with its code and its kind, and the report says what is counted.
 fn is_told(tally: &Tally, report: &Report) -> bool {
     let refused = sum_of(tally.refusals.as_slice());
     let accepted = sum_of(tally.accepted.as_slice());
     u64::from(report.refused) == refused
+        && sum_of(tally.refused_kinds.as_slice()) == refused
         && refused.saturating_add(accepted) == u64::from(report.steps)
         && report.aborted == sum_of(&[tally.conflicting, tally.too_old])
         && report.acknowledged == sum_of(&[tally.committed, tally.read_only])

@@ -76,6 +76,7 @@ const TOO_FEW: &[u8] = b"ask 0\n\
     pull 0\n\
     forget 0\n\
     pop\n\
+    window\n\
     show\n\
     drive\n\
     \x20  ";
@@ -95,6 +96,9 @@ const NO_WORDS: &[u8] = b"wri\n\
     moves a b 0\n\
     move a b\n\
     move a b 0 0\n\
+    windows 1\n\
+    window 1 2\n\
+    Window 1\n\
     forgets 0 1\n\
     pops 0\n\
     shows 0\n\
@@ -120,6 +124,9 @@ const NO_NUMBERS: &[u8] = b"ask 4294967296 0\n\
     forget 0 18446744073709551616\n\
     pop 4294967296\n\
     move a b 4294967296\n\
+    window 18446744073709551616\n\
+    window -1\n\
+    window a\n\
     sget a a\n\
     addread 4294967296 a b\n\
     addwrite a a b\n\

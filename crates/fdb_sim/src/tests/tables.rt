@@ -9,6 +9,7 @@ pub mod resolvers;
 mod sessions;
 mod sets;
 pub mod shards;
+mod windows;
 mod writes;
 
 use crate::tests::playing::check_script;
@@ -95,6 +96,7 @@ fn tables_are_played(rt: HostRuntime) -> Result<(), Fail> {
         sessions::TABLES.as_slice(),
         sets::TABLES.as_slice(),
         shards::TABLES.as_slice(),
+        windows::TABLES.as_slice(),
         writes::TABLES.as_slice(),
     ] {
         for table in tables {

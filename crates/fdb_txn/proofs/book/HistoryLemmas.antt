@@ -11,10 +11,11 @@ use Rattle.fdb_txn.specs.book.Transactions.{Transaction, NamesWrites}
 use Rattle.fdb_txn.specs.book.Book.{Stamped, Head, Place, Seen, nothing, add_moves, head_of, placed}
 use Rattle.fdb_txn.specs.book.Book.{add_places, add_entry, seen_of}
 use Rattle.fdb_txn.specs.book.Places.{place_in, place_of}
-use Rattle.fdb_txn.specs.book.History.{AreLinked, ReadsBelow, MovesExist, IsSealed, IsBook, IsHistory, AreEntries}
+use Rattle.fdb_txn.specs.book.History.{AreLinked, HasHorizonBelow, ReadsBelow, MovesExist, IsSealed, IsBook}
+use Rattle.fdb_txn.specs.book.History.{IsHistory, AreEntries}
 use Rattle.fdb_txn.specs.rules.SerialMap.{serial_map, up_to}
 use Rattle.fdb_txn.specs.laws.SerialMapLaws.{BooksAreEntries, PlacesAreHistory, PlacesAreFoundInTheBook}
-use Rattle.fdb_txn.specs.laws.SerialMapLaws.{EarlierPlacesStay, EarlierMapsStay, EntriesGoOn}
+use Rattle.fdb_txn.specs.laws.SerialMapLaws.{EarlierPlacesStay, EarlierMapsStay, EntriesGoOn, HorizonsPart}
 
 -- what holds of each item, and what else does, both do
 all-both : {A : Type 0} (P Q : A → Type 0) → (xs : List A) → AllByRecursion P xs → AllByRecursion Q xs
@@ -89,15 +90,15 @@ after-newer resolvers last version moves older later newer place after = (
 
 -- the places of an entry go on a history that they follow
 history-add_places : (resolvers : ℕ) (head : Head) (p : ℕ) (batch : List Transaction) (earlier : List Place)
-    → AllByRecursion (IsMoveThrough resolvers head.version) head.moves
+    → AllByRecursion (IsMoveThrough resolvers head.version) head.moves → head.horizon < head.version
     → AllByRecursion (MayStandAt head.version) batch
     → IsHistory resolvers earlier → AllByRecursion (IsAfter head.version head.moves) earlier
     → IsHistory resolvers (add_places head p batch earlier)
     × AllByRecursion (IsAfter head.version head.moves) (add_places head p batch earlier)
-history-add_places resolvers head p [] earlier through may history after = (history, after)
-history-add_places resolvers head p (t ∷ ts) earlier through may history after =
-    history-add_places resolvers head (suc p) ts (placed head p t ∷ earlier) through may.1
-    ((may.0.0, may.0.1, through), after, history)
+history-add_places resolvers head p [] earlier through below may history after = (history, after)
+history-add_places resolvers head p (t ∷ ts) earlier through below may history after =
+    history-add_places resolvers head (suc p) ts (placed head p t ∷ earlier) through below may.1
+    ((may.0.0, may.0.1, through, below), after, history)
     ((le_refl head.version, ([], refl, tt)), after)
 
 -- the same as `places_are_history`, after what was seen before
@@ -111,8 +112,8 @@ history-after resolvers last seen (entry ∷ book) through history after entries
     seen.moves entries.2 in
     let now : AllByRecursion (IsMoveThrough resolvers entry.version) moves =
     moves-through resolvers last entry.version moves seen.moves (le_of_lt entries.0) newer through in
-    let both = history-add_places resolvers (head_of seen entry) 0 entry.batch seen.places now entries.3 history
-    (all-weaken (IsAfter last seen.moves) (IsAfter entry.version moves)
+    let both = history-add_places resolvers (head_of seen entry) 0 entry.batch seen.places now entries.1.1 entries.3
+    history (all-weaken (IsAfter last seen.moves) (IsAfter entry.version moves)
     (after-newer resolvers last entry.version moves seen.moves entries.0 newer)
     seen.places after) in
     history-after resolvers entry.version (add_entry seen entry) book now both.0 both.1 entries.4
@@ -182,23 +183,36 @@ entries_go_on resolvers last [] entry entries more = more
 entries_go_on resolvers last (first ∷ book) entry entries more =
     (entries.0, entries.1, entries.2, entries.3, entries_go_on resolvers first.version book entry entries.4 more)
 
+-- horizons never fall exactly where they don't among the first entries and among those after these
+pub horizons_part : HorizonsPart
+horizons_part last [] more = (λ rise. (tt, rise), λ parts. parts.1)
+horizons_part last (entry ∷ book) more =
+    let rest = horizons_part entry.horizon book more in (
+      λ rise. let parts = rest.0 rise.1 in ((rise.0, parts.0), parts.1),
+      λ parts. (parts.0.0, rest.1 (parts.0.1, parts.1)),
+    )
+
 -- the parts of a book of sealed transactions, after a version, are those of entries
 module _ (resolvers : ℕ) where
-  entries-from : (last : ℕ) (book : List Entry) → AreLinked last book → AllByRecursion ReadsBelow book
-      → AllByRecursion (MovesExist resolvers) book → AllByRecursion IsSealed book
+  entries-from : (last : ℕ) (book : List Entry) → AreLinked last book → AllByRecursion HasHorizonBelow book
+      → AllByRecursion ReadsBelow book → AllByRecursion (MovesExist resolvers) book → AllByRecursion IsSealed book
       → AreEntries resolvers last book
-  entries-from last [] linked reads moves are_sealed = tt
-  entries-from last (entry ∷ book) linked reads moves are_sealed = (
+  entries-from last [] linked below reads moves are_sealed = tt
+  entries-from last (entry ∷ book) linked below reads moves are_sealed = (
     linked.0,
-    linked.1,
+    (linked.1, below.0),
     moves.0,
     all-both (λ (t : Transaction). t.read < entry.version) NamesWrites entry.batch reads.0 are_sealed.0,
-    entries-from entry.version book linked.2 reads.1 moves.1 are_sealed.1,
+    entries-from entry.version book linked.2 below.1 reads.1 moves.1 are_sealed.1,
   )
 
   linked-of : (last : ℕ) (book : List Entry) → AreEntries resolvers last book → AreLinked last book
   linked-of last [] entries = tt
-  linked-of last (entry ∷ book) entries = (entries.0, entries.1, linked-of entry.version book entries.4)
+  linked-of last (entry ∷ book) entries = (entries.0, entries.1.0, linked-of entry.version book entries.4)
+
+  below-of : (last : ℕ) (book : List Entry) → AreEntries resolvers last book → AllByRecursion HasHorizonBelow book
+  below-of last [] entries = tt
+  below-of last (entry ∷ book) entries = (entries.1.1, below-of entry.version book entries.4)
 
   reads-of : (last : ℕ) (book : List Entry) → AreEntries resolvers last book → AllByRecursion ReadsBelow book
   reads-of last [] entries = tt
@@ -219,15 +233,17 @@ module _ (resolvers : ℕ) where
     sealed-of entry.version book entries.4,
   )
 
--- a book of sealed transactions is a list of entries that has no id twice
+-- a book of sealed transactions is a list of entries that has no id twice and whose horizons never fall
 pub books_are_entries : BooksAreEntries
 books_are_entries resolvers book = (
   λ given.
       let is : IsBook resolvers book = given.0 in
-      (entries-from resolvers 0 book is.linked is.reads is.moves given.1, is.ids),
+      (entries-from resolvers 0 book is.linked is.below is.reads is.moves given.1, is.ids, is.horizons),
   λ given. (
     record {
       linked = linked-of resolvers 0 book given.0;
+      horizons = given.2;
+      below = below-of resolvers 0 book given.0;
       reads = reads-of resolvers 0 book given.0;
       moves = moves-of resolvers 0 book given.0;
       ids = given.1;

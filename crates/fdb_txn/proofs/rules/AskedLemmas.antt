@@ -1,5 +1,5 @@
 -- The resolvers that are asked about a place tell whether it is committed.
-use Rattle.std.proofs.Common.{◌≡◌, ◌<◌, ◌≤◌, ◌+◌, ◌-◌, ◌∙◌, ap, subst, refl, arith, ⊎_elim, ℕ, suc, max, Bool, true}
+use Rattle.std.proofs.Common.{◌≡◌, ◌<◌, ◌≤◌, ◌∙◌, ap, subst, refl, arith, ⊎_elim, ℕ, suc, max, Bool, true}
 use Rattle.std.proofs.Common.{◌&&◌, ◌==◌, nat_lt, nat_le, List, [], ◌∷◌, ◌++◌, length, Decides}
 use Rattle.std.specs.List.{AllByRecursion}
 use Rattle.std.proofs.lemmas.Bool.{cases_Bool, both_ways, or_left, or_right, or_cases, and_left, and_parts, and_cases}
@@ -9,7 +9,7 @@ use Rattle.fdb_keys.specs.Points.{Point, point_lt}
 use Rattle.fdb_keys.specs.Ranges.{Range, in_range, in_set}
 use Rattle.fdb_keys.proofs.Exports.{all-parts, in_range_from, in_range_parts, le_lt_chain, lt-itself}
 use Rattle.fdb_txn.specs.book.Book.{Stamped, Place}
-use Rattle.fdb_txn.specs.rules.Owners.{window, first_owner, owner, span_begin, is_asked}
+use Rattle.fdb_txn.specs.rules.Owners.{first_owner, owner, span_begin, is_asked}
 use Rattle.fdb_txn.specs.rules.Admission.{has_points, is_fresh, admits, all_below, committed}
 use Rattle.fdb_txn.specs.laws.AdmissionLaws.{Conflict, IsAmongAsked, CommittedByTheAsked, OldIsAsked}
 use Rattle.fdb_txn.specs.book.History.{Follows, IsHistory}
@@ -71,22 +71,21 @@ one_owner_where_follows splits later earlier x follows =
     ap (λ (moves : List Stamped). owner splits moves x earlier.version) follows.1.1
     ∙ owner-older splits follows.1.0 earlier.moves x earlier.version follows.1.2
 
--- the span of asking begins below each version above the read version that lies in the window
-span_begins-below : (read version size v : ℕ) → version ≤ read + size → read < v → max read (version - size) < v
-span_begins-below read version size v within above = omega arith
+-- the span of asking begins below each version above a read version that isn't below the horizon
+span_begins-below : (read horizon v : ℕ) → horizon ≤ read → read < v → max read horizon < v
+span_begins-below read horizon v within above = omega arith
 
 -- the span of asking holds the place's own version
-span_ends-above : (read version size : ℕ) → 0 < size → read < version → max read (version - size) < version
-span_ends-above read version size some above = omega arith
+span_ends-above : (read horizon version : ℕ) → horizon < version → read < version → max read horizon < version
+span_ends-above read horizon version below above = omega arith
 
--- a place that reads a point and isn't old reads within the window
+-- a place that reads a point and isn't old reads no version below the horizon
 pub fresh-within : (place : Place) (x : Point) → is_fresh place ≡ true → in_set place.transaction.reads x ≡ true
-    → place.version ≤ place.transaction.read + window
+    → place.horizon ≤ place.transaction.read
 fresh-within place x fresh reads = ⊎_elim
     (λ none. absurd (both_ways _ none (points_from-in_set place.transaction.reads x reads)))
-    (λ within. ltb-false (place.transaction.read + window) place.version within)
-    (and_cases (has_points place.transaction.reads) (nat_lt (place.transaction.read + window) place.version)
-    (not-true _ fresh))
+    (λ within. ltb-false place.transaction.read place.horizon within)
+    (and_cases (has_points place.transaction.reads) (nat_lt place.transaction.read place.horizon) (not-true _ fresh))
 
 -- who owned at some version of the span a point that the place reads is asked about it
 pub asked_about_read : (splits : List Point) (i : ℕ) (place : Place) (x : Point) (v : ℕ)
@@ -119,7 +118,7 @@ conflict-asked splits i earlier place follow fresh conflict =
     let follows : Follows place other = all-middle (Follows place) earlier conflict.newer conflict.older other
     conflict.is_earlier follow in
     asked_about_read splits i place x other.version reads
-    (span_begins-below place.transaction.read place.version window other.version (fresh-within place x fresh reads)
+    (span_begins-below place.transaction.read place.horizon other.version (fresh-within place x fresh reads)
     conflict.is_unseen)
     follows.0
     (one_owner_where_follows splits place other x follows ∙ eqb-true _ i parts.1)
@@ -128,14 +127,14 @@ conflict-asked splits i earlier place follow fresh conflict =
 pub old_is_asked : OldIsAsked
 old_is_asked splits earlier place history old =
     let parts : (has_points place.transaction.reads ≡ true)
-    × (nat_lt (place.transaction.read + window) place.version ≡ true)
+    × (nat_lt place.transaction.read place.horizon ≡ true)
     = and_parts _ _ (not-false _ old) in
     let point = point_of-set place.transaction.reads parts.0 in (
       owner splits place.moves point.0 place.version,
       (
         owner-exists splits place.version place.moves point.0 place.version history.0.2,
         asked_about_read splits _ place point.0 place.version point.1
-            (span_ends-above place.transaction.read place.version window (omega arith) history.0.0)
+            (span_ends-above place.transaction.read place.horizon place.version history.0.3 history.0.0)
             (omega arith)
             refl,
       ),

@@ -8,11 +8,21 @@ use Rattle.fdb_txn.specs.declared.txn_id.TxnId.{TxnId}
 use Rattle.fdb_txn.specs.book.Once.{same_id, times_in_book}
 use Rattle.fdb_txn.specs.laws.Examples.{OneBatch, WriteSkew, FalseConflict, FormerOwner, ThereAndBack, EqualIsNotNewer}
 use Rattle.fdb_txn.specs.laws.Examples.{Window, OldReading, TwoMoves, Spans, AtBounds, ShardMessages, Entries}
-use Rattle.fdb_txn.specs.laws.Examples.{of_three_ids, Books}
+use Rattle.fdb_txn.specs.laws.Examples.{of_three_ids, Books, Numbers, Horizon, Horizons}
 
 pub one_batch_computes : OneBatch
 unfolding point_lt
 one_batch_computes = (refl, refl, refl)
+
+pub numbers_compute : Numbers
+numbers_compute = (refl, refl)
+
+pub horizon_computes : Horizon
+unfolding point_lt
+horizon_computes = (refl, refl, refl, refl, refl, refl, refl)
+
+pub horizons_compute : Horizons
+horizons_compute = (refl, refl, refl, refl, refl, refl)
 
 pub write_skew_computes : WriteSkew
 unfolding point_lt
@@ -60,12 +70,19 @@ shard_messages_compute = (refl, refl, refl)
 
 pub entries_are_judged : Entries
 entries_are_judged = (
-  (omega arith, refl, (omega arith, tt), ((omega arith, λ x named. cc), tt), (omega arith, refl, tt, tt, tt)),
+  (
+    omega arith,
+    (refl, omega arith),
+    (omega arith, tt),
+    ((omega arith, λ x named. cc), tt),
+    (omega arith, (refl, omega arith), tt, tt, tt),
+  ),
   λ entries. let wrong : 0 < 0 = entries.0 in absurd (omega arith),
-  λ entries. let wrong : 0 ≡ 1 = entries.4.1 in absurd (omega arith),
+  λ entries. let wrong : 0 ≡ 1 = entries.4.1.0 in absurd (omega arith),
   λ entries. let wrong : 2 < 2 = entries.2.0 in absurd (omega arith),
   λ entries. let wrong : 1 < 1 = entries.3.0.0 in absurd (omega arith),
   λ entries. let wrong : false ≡ true = entries.3.0.1 (codes "a") refl in cc,
+  λ entries. let wrong : 1 < 1 = entries.1.1 in absurd (omega arith),
 )
 
 abbrev counted : Bool → ℕ
@@ -108,10 +125,24 @@ pub books_are_judged : Books
 books_are_judged = (
   record {
     linked = (omega arith, refl, (omega arith, refl, tt));
+    horizons = (omega arith, (omega arith, tt));
+    below = (omega arith, (omega arith, tt));
     reads = ((omega arith, (omega arith, tt)), ((omega arith, tt), tt));
     moves = (tt, (tt, tt));
     ids = three_ids;
   },
   λ book. let wrong : 2 ≤ 1 = book.ids (record { session = 0; number = 0 }) in absurd (omega arith),
   λ book. let wrong : 2 ≤ 1 = book.ids (record { session = 0; number = 0 }) in absurd (omega arith),
+  (
+    record {
+      linked = (omega arith, refl, (omega arith, refl, (omega arith, refl, tt)));
+      horizons = (omega arith, (omega arith, (omega arith, tt)));
+      below = (omega arith, (omega arith, (omega arith, tt)));
+      reads = (tt, (tt, (tt, tt)));
+      moves = (tt, (tt, (tt, tt)));
+      ids = λ id. omega arith;
+    },
+    λ book. let wrong : 100 ≤ 99 = book.horizons.1.1.0 in absurd (omega arith),
+    λ book. let wrong : 250 < 250 = book.below.1.0 in absurd (omega arith),
+  ),
 )

@@ -139,7 +139,7 @@ one_place_more splits i place earlier x history =
 below-as_other : (v a b : ℕ) → nat_lt v a ≡ nat_lt v b → a ≤ v → b ≤ v
 below-as_other v a b alike below = ltb-false _ _ (sym alike ∙ le-ltb _ _ below)
 
--- a state of a floor that isn't above the window's begin decides as the rule
+-- a state of a floor that isn't above the horizon decides as the rule
 pub state_decides : StateDecides
 state_decides splits i place earlier floor f history state in_window = (
   (λ admitted. let free = rule.0 admitted in (

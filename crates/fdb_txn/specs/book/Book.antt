@@ -1,5 +1,5 @@
 -- The book, read as places with all that a rule about a place looks at.
-use Rattle.std.specs.Prelude.{ℕ, suc, List, [], ◌∷◌, fold, take}
+use Rattle.std.specs.Prelude.{ℕ, suc, max, ◌-◌, List, [], ◌∷◌, fold, take}
 use Rattle.fdb_keys.specs.Ranges.{Range}
 use Rattle.fdb_txn.specs.declared.entry.Move.{Move}
 use Rattle.fdb_txn.specs.declared.entry.Entry.{Entry}
@@ -11,14 +11,16 @@ pub record Stamped : Type 0 where
   pub range : Range
   pub target : ℕ
 
--- what all places of an entry share: its version, and all moves through that version, the newest first
+-- what all places of an entry share: its version, its horizon, and all moves through that version, the newest first
 pub record Head : Type 0 where
   pub version : ℕ
+  pub horizon : ℕ
   pub moves : List Stamped
 
 -- a transaction at its place, with what its entry's head says and the place's number in the entry
 pub record Place : Type 0 where
   pub version : ℕ
+  pub horizon : ℕ
   pub moves : List Stamped
   pub number : ℕ
   pub transaction : Transaction
@@ -37,18 +39,23 @@ add_moves version [] older = older
 add_moves version (move ∷ moves) older =
     add_moves version moves (record { version = version; range = move.range; target = move.to } ∷ older)
 
--- the head of an entry of this version, by all moves through it
-abbrev pub head_at : ℕ → List Stamped → Head
-head_at version moves = record { version = version; moves = moves }
+-- the head of an entry of this version and horizon, by all moves through it
+abbrev pub head_at : ℕ → ℕ → List Stamped → Head
+head_at version horizon moves = record { version = version; horizon = horizon; moves = moves }
 
 -- the head of an entry after what was seen before it
 abbrev pub head_of : Seen → Entry → Head
-head_of before entry = head_at entry.version (add_moves entry.version entry.moves before.moves)
+head_of before entry = head_at entry.version entry.horizon (add_moves entry.version entry.moves before.moves)
 
 -- the transaction at the place with this number
 abbrev pub placed : Head → ℕ → Transaction → Place
-placed head number t =
-    record { version = head.version; moves = head.moves; number = number; transaction = t }
+placed head number t = record {
+  version = head.version;
+  horizon = head.horizon;
+  moves = head.moves;
+  number = number;
+  transaction = t;
+}
 
 -- the transactions of one entry, from place p on, before the earlier places
 abbrev pub add_places : Head → ℕ → List Transaction → List Place → List Place
@@ -67,6 +74,15 @@ seen_of book = fold add_entry nothing book
 -- the version of the last entry, 0 where there is none
 abbrev pub last_version : List Entry → ℕ
 last_version book = fold (λ (last : ℕ) (entry : Entry). entry.version) 0 book
+
+-- the horizon of the last entry, 0 where there is none
+abbrev pub last_horizon : List Entry → ℕ
+last_horizon book = fold (λ (last : ℕ) (entry : Entry). entry.horizon) 0 book
+
+-- The horizon of an entry of this version, after the horizon of the entry before it and by the window: it is the begin
+-- of the version's window, and never falls, also where the window grows.
+abbrev pub next_horizon : (last window version : ℕ) → ℕ
+next_horizon last window version = max last (version - window)
 
 -- what was seen before entry i
 abbrev pub seen_before : List Entry → ℕ → Seen

@@ -12,6 +12,15 @@ abbrev pub AreLinked : ℕ → List Entry → Type 0
 AreLinked last [] = ⊤
 AreLinked last (entry ∷ entries) = (last < entry.version) × (entry.prev ≡ last) × AreLinked entry.version entries
 
+-- the horizons of entries after a horizon never fall
+abbrev pub HorizonsRise : ℕ → List Entry → Type 0
+HorizonsRise last [] = ⊤
+HorizonsRise last (entry ∷ entries) = (last ≤ entry.horizon) × HorizonsRise entry.horizon entries
+
+-- the horizon of the entry lies below its version
+abbrev pub HasHorizonBelow : Entry → Type 0
+HasHorizonBelow entry = entry.horizon < entry.version
+
 -- each transaction of the entry read below the entry's version
 abbrev pub ReadsBelow : Entry → Type 0
 ReadsBelow entry = AllByRecursion (λ (t : Transaction). t.read < entry.version) entry.batch
@@ -24,10 +33,13 @@ MovesExist resolvers entry = AllByRecursion (λ (move : Move). move.to < resolve
 abbrev pub IsSealed : Entry → Type 0
 IsSealed entry = AllByRecursion NamesWrites entry.batch
 
--- A book. Versions rise from 0, and each previous one is that of the entry before, 0 for the first; each transaction
--- read below its entry's version; each move goes to a resolver that exists; and no id is that of two places.
+-- A book. Versions rise from 0, and each previous one is that of the entry before, 0 for the first; horizons never
+-- fall, and each lies below its entry's version; each transaction read below its entry's version; each move goes to a
+-- resolver that exists; and no id is that of two places.
 pub record IsBook (resolvers : ℕ) (book : List Entry) : Type 0 where
   pub linked : AreLinked 0 book
+  pub horizons : HorizonsRise 0 book
+  pub below : AllByRecursion HasHorizonBelow book
   pub reads : AllByRecursion ReadsBelow book
   pub moves : AllByRecursion (MovesExist resolvers) book
   pub ids : NoIdTwice book
@@ -40,12 +52,13 @@ Follows later earlier =
     × ((newer : List Stamped) × (later.moves ≡ newer ++ earlier.moves)
     × AllByRecursion (λ (move : Stamped). earlier.version < move.version) newer)
 
--- The transaction read below the place's version, all that its mutations name is in its write set, and the
--- moves are of versions up to the place's own and go to resolvers that exist.
+-- The transaction read below the place's version, all that its mutations name is in its write set, the moves are of
+-- versions up to the place's own and go to resolvers that exist, and the horizon lies below the place's version.
 abbrev pub IsPlace : ℕ → Place → Type 0
 IsPlace resolvers place =
     (place.transaction.read < place.version) × NamesWrites place.transaction
     × AllByRecursion (λ (move : Stamped). (move.version ≤ place.version) × (move.target < resolvers)) place.moves
+    × (place.horizon < place.version)
 
 -- places of one book, the newest first
 abbrev pub IsHistory : ℕ → List Place → Type 0
@@ -54,11 +67,11 @@ IsHistory resolvers (place ∷ earlier) = IsPlace resolvers place × AllByRecurs
     × IsHistory resolvers earlier
 
 -- Entries after a version, as they are in a book of sealed transactions. A law says that from 0 on they are such a
--- book, but for the ids.
+-- book, but for the ids and that horizons never fall.
 abbrev pub AreEntries : ℕ → ℕ → List Entry → Type 0
 AreEntries resolvers last [] = ⊤
 AreEntries resolvers last (entry ∷ entries) =
-    (last < entry.version) × (entry.prev ≡ last)
+    (last < entry.version) × ((entry.prev ≡ last) × HasHorizonBelow entry)
     × AllByRecursion (λ (move : Move). move.to < resolvers) entry.moves
     × AllByRecursion (λ (t : Transaction). (t.read < entry.version) × NamesWrites t) entry.batch
     × AreEntries resolvers entry.version entries

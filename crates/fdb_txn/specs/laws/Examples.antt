@@ -1,5 +1,5 @@
 -- Small books, and what the rules say of each place in them.
-use Rattle.std.specs.Prelude.{◌≡◌, ℕ, zero, suc, Bool, true, false, List, [], ◌∷◌, ◌++◌, map, length, Option, Some}
+use Rattle.std.specs.Prelude.{◌≡◌, ◌-◌, ℕ, zero, suc, Bool, true, false, List, [], ◌∷◌, ◌++◌, map, length, Option, Some}
 use Rattle.std.specs.Prelude.{None, codes, if◌then◌else◌}
 use Rattle.std.specs.FinMap.{empty}
 use Rattle.fdb_keys.specs.Points.{Point}
@@ -9,15 +9,15 @@ use Rattle.fdb_mutations.specs.declared.mutation.Mutation.TheVariants.{Set}
 use Rattle.fdb_mutations.specs.Maps.{Map}
 use Rattle.fdb_mutations.specs.Mutations.{effects}
 use Rattle.fdb_txn.specs.Limits.{size_limit, place_limit, book_limit, greatest_advance, version_limit, ticket_limit}
-use Rattle.fdb_txn.specs.Limits.{move_limit, proxy_limit, resolver_limit, log_limit, tag_limit, shard_limit}
+use Rattle.fdb_txn.specs.Limits.{window, move_limit, proxy_limit, resolver_limit, log_limit, tag_limit, shard_limit}
 use Rattle.fdb_txn.specs.declared.entry.Move.{Move}
 use Rattle.fdb_txn.specs.declared.entry.Entry.{Entry}
 use Rattle.fdb_txn.specs.declared.tag_msg.TagMsg.{TagMsg}
 use Rattle.fdb_txn.specs.book.Transactions.{Transaction}
 use Rattle.fdb_txn.specs.book.Size.{size_of}
-use Rattle.fdb_txn.specs.book.Book.{Place, seen_of}
+use Rattle.fdb_txn.specs.book.Book.{Place, seen_of, last_horizon, next_horizon}
 use Rattle.fdb_txn.specs.book.History.{AreEntries, IsBook}
-use Rattle.fdb_txn.specs.rules.Owners.{is_asked, window}
+use Rattle.fdb_txn.specs.rules.Owners.{is_asked}
 use Rattle.fdb_txn.specs.rules.Admission.{is_fresh, admits, committed}
 use Rattle.fdb_txn.specs.book.Places.{place_at}
 use Rattle.fdb_txn.specs.rules.SerialMap.{serial_map_at}
@@ -38,9 +38,19 @@ reads_and_sets number version keys others =
       mutations = sets others;
     }
 
--- the entry of a version after a previous one
+-- the entry of a version after a previous one, by the first window
 abbrev pub entry_of : ℕ → ℕ → List Move → List Transaction → Entry
-entry_of version prev moves batch = record { version = version; prev = prev; moves = moves; batch = batch }
+entry_of version prev moves batch = record {
+  version = version;
+  prev = prev;
+  horizon = version - window;
+  moves = moves;
+  batch = batch;
+}
+
+-- the entry with another horizon
+abbrev pub with_horizon : ℕ → Entry → Entry
+with_horizon horizon entry = record entry { horizon = horizon }
 
 -- the keys from one up to another go over to a resolver
 abbrev pub move_of : Point → Point → ℕ → Move
@@ -108,6 +118,16 @@ OneBatch =
     × (ruling at_m one_batch 0 1 ≡ Some (record { fresh = true; asked = 0 ∷ []; admitting = 1 ∷ []; commits = false }))
     × (ruling at_m one_batch 1 0 ≡ Some
     (record { fresh = true; asked = 0 ∷ []; admitting = 0 ∷ 1 ∷ []; commits = true }))
+
+-- the numbers of the places of a book, of which the newest is the first
+abbrev pub numbers_of : List Entry → List ℕ
+numbers_of book = map (λ (place : Place). place.number) (seen_of book).places
+
+-- Places are numbered from 0 in each entry: two of the first entry, one of the second.
+abbrev pub Numbers : Type 0
+Numbers =
+    (numbers_of one_batch ≡ 0 ∷ 1 ∷ 0 ∷ [])
+    × (numbers_of (one_batch ++ one_batch) ≡ 0 ∷ 1 ∷ 0 ∷ 0 ∷ 1 ∷ 0 ∷ [])
 
 -- At 100 transaction 0 reads a and sets z, at 200 transaction 1 reads z and sets a, both from version 0.
 abbrev pub write_skew : List Entry
@@ -219,6 +239,60 @@ Window =
     (record { fresh = true; asked = 0 ∷ []; admitting = 0 ∷ 1 ∷ []; commits = true }))
     × (ruling at_m at_window 3 1 ≡ Some
     (record { fresh = true; asked = 0 ∷ []; admitting = 0 ∷ 1 ∷ []; commits = true }))
+
+-- At 100 the window is the first one; it is 150 from 250 on, and the first one again from 252 on. All transactions read
+-- a. At 250 transaction 0 reads it at version 100 and sets b, and transaction 4 reads it at 99 and sets f. At 251
+-- transaction 1 reads it at 100 and sets c. At 252 transaction 2 reads it at 100 and sets d, and transaction 3 reads it
+-- at 101 and sets e.
+abbrev pub a_horizon : List Entry
+a_horizon =
+    entry_of 100 0 [] []
+    ∷ with_horizon 100 (entry_of 250 100 []
+    (reads_and_sets 0 100 (codes "a" ∷ []) (codes "b" ∷ []) ∷ reads_and_sets 4 99 (codes "a" ∷ []) (codes "f" ∷ [])
+    ∷ []))
+    ∷ with_horizon 101 (entry_of 251 250 [] (reads_and_sets 1 100 (codes "a" ∷ []) (codes "c" ∷ []) ∷ []))
+    ∷ with_horizon 101 (entry_of 252 251 []
+    (reads_and_sets 2 100 (codes "a" ∷ []) (codes "d" ∷ []) ∷ reads_and_sets 3 101 (codes "a" ∷ []) (codes "e" ∷ [])
+    ∷ []))
+    ∷ []
+
+-- At 301 the keys from m up to t go over to resolver 0. At 400, with this horizon, transaction 0 reads p at version
+-- 100.
+abbrev pub a_span : ℕ → List Entry
+a_span horizon =
+    entry_of 300 0 [] []
+    ∷ entry_of 301 300 (move_of (codes "m") (codes "t") 0 ∷ []) []
+    ∷ with_horizon horizon (entry_of 400 301 [] (reads_and_sets 0 100 (codes "p" ∷ []) [] ∷ []))
+    ∷ []
+
+-- A horizon: who reads at it commits, and who reads right below it is old. So transaction 0 commits and transaction 4
+-- doesn't; transaction 1 is old, and so is transaction 2 though the window grew again, since the horizon stays;
+-- transaction 3 commits. A span begins at the horizon: resolver 1 owned p last at 300, and is asked where the horizon
+-- is 299, but not where it is 300.
+abbrev pub Horizon : Type 0
+Horizon =
+    (ruling at_m a_horizon 1 0 ≡ Some (record { fresh = true; asked = 0 ∷ []; admitting = 0 ∷ 1 ∷ []; commits = true }))
+    × (ruling at_m a_horizon 1 1 ≡ Some (record { fresh = false; asked = 0 ∷ []; admitting = []; commits = false }))
+    × (ruling at_m a_horizon 2 0 ≡ Some (record { fresh = false; asked = 0 ∷ []; admitting = []; commits = false }))
+    × (ruling at_m a_horizon 3 0 ≡ Some (record { fresh = false; asked = 0 ∷ []; admitting = []; commits = false }))
+    × (ruling at_m a_horizon 3 1 ≡ Some
+    (record { fresh = true; asked = 0 ∷ []; admitting = 0 ∷ 1 ∷ []; commits = true }))
+    × (ruling at_m (a_span 299) 2 0 ≡ Some
+    (record { fresh = false; asked = 0 ∷ 1 ∷ []; admitting = []; commits = false }))
+    × (ruling at_m (a_span 300) 2 0 ≡ Some
+    (record { fresh = false; asked = 0 ∷ []; admitting = []; commits = false }))
+
+-- The horizon of an entry, after that of the one before it: it rises with the version, is 0 where the window is
+-- greater than the version, stays where the window grows as much as the version rises, and would fall where it grows
+-- by more, but stays.
+abbrev pub Horizons : Type 0
+Horizons =
+    (next_horizon 0 150 250 ≡ 100)
+    × (next_horizon 100 150 251 ≡ 101)
+    × (next_horizon 0 5000000 250 ≡ 0)
+    × (next_horizon 101 151 252 ≡ 101)
+    × (next_horizon 101 5000000 252 ≡ 101)
+    × (last_horizon a_horizon ≡ 101)
 
 -- At 100 nothing. At 301 the keys from m up to t go over to resolver 0. At 5000299 transaction 0, and at 5000300
 -- transaction 1, read p at version 100 and set z.
@@ -338,6 +412,8 @@ Entries =
     × (AreEntries 2 0 (entry_of 1 0 [] (reads_and_sets 0 1 (codes "a" ∷ []) [] ∷ []) ∷ []) → ⊥)
     -- what it sets is in its write set
     × (AreEntries 2 0 (entry_of 1 0 [] (record (reads_and_sets 0 0 [] (codes "a" ∷ [])) { writes = [] } ∷ []) ∷ []) → ⊥)
+    -- a horizon lies below its entry's version
+    × (AreEntries 2 0 (with_horizon 1 (entry_of 1 0 [] []) ∷ []) → ⊥)
 
 -- At 1 the transactions with number 0 of the sessions 0 and 1, at 2 the one with number 1 of session 0.
 abbrev pub of_three_ids : List Entry
@@ -346,14 +422,22 @@ of_three_ids =
     ∷ entry_of 2 1 [] (record (reads_and_sets 0 1 [] []) { id = record { session = 0; number = 1 } } ∷ [])
     ∷ []
 
--- Which lists are books of two resolvers, by the ids of their transactions: with three ids for three transactions
--- there is one, and with one id twice in an entry, or in two entries, there is none.
+-- entries at 100, 250 and 251, the last two of these horizons
+abbrev pub of_horizons : ℕ → ℕ → List Entry
+of_horizons second third =
+    entry_of 100 0 [] [] ∷ with_horizon second (entry_of 250 100 [] []) ∷ with_horizon third (entry_of 251 250 [] [])
+    ∷ []
+
+-- Which lists are books of two resolvers. By the ids of their transactions: with three ids for three transactions
+-- there is one, and with one id twice in an entry, or in two entries, there is none. By their horizons: where one stays
+-- there is one; where one falls, or isn't below its entry's version, there is none.
 abbrev pub Books : Type 0
 Books =
     IsBook 2 of_three_ids
     × (IsBook 2 (entry_of 1 0 [] (reads_and_sets 0 0 [] [] ∷ reads_and_sets 0 0 [] [] ∷ []) ∷ []) → ⊥)
     × (IsBook 2
     (entry_of 1 0 [] (reads_and_sets 0 0 [] [] ∷ []) ∷ entry_of 2 1 [] (reads_and_sets 0 1 [] [] ∷ []) ∷ []) → ⊥)
+    × (IsBook 2 (of_horizons 100 100) × (IsBook 2 (of_horizons 100 99) → ⊥) × (IsBook 2 (of_horizons 250 250) → ⊥))
 
 -- the number of each limit
 abbrev pub LimitNumbers : Type 0

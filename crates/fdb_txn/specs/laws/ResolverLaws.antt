@@ -1,8 +1,8 @@
 -- What a resolver says of a place, and what it has to keep for that.
-use Rattle.std.specs.Prelude.{◌≡◌, ◌↔◌, ◌⊎◌, ◌||◌, ◌≤◌, ◌-◌, ℕ, suc, true, List, ◌∷◌, length}
+use Rattle.std.specs.Prelude.{◌≡◌, ◌↔◌, ◌⊎◌, ◌||◌, ◌≤◌, ℕ, suc, true, List, ◌∷◌, length}
 use Rattle.fdb_keys.specs.Points.{Point}
 use Rattle.fdb_txn.specs.book.Book.{Place}
-use Rattle.fdb_txn.specs.rules.Owners.{window, is_asked}
+use Rattle.fdb_txn.specs.rules.Owners.{is_asked}
 use Rattle.fdb_txn.specs.rules.Admission.{admits}
 use Rattle.fdb_txn.specs.book.History.{IsHistory}
 use Rattle.fdb_txn.specs.rules.Resolvers.{part_writes, part_reads, last_commit_version, IsAdmittedBy, with_place}
@@ -33,12 +33,12 @@ AskedWhereItHasAPart =
     → (is_asked splits i place ≡ true) ↔
     ((x : Point) × (part_writes splits i place x || part_reads splits i place x ≡ true))
 
--- A state that answers from a floor on, which isn't above the begin of the place's window, decides as the rule does.
+-- A state that answers from a floor on, which isn't above the place's horizon, decides as the rule does.
 abbrev pub StateDecides : Type 0
 StateDecides =
     (splits : List Point) (i : ℕ) (place : Place) (earlier : List Place) (floor : ℕ) (f : Point → ℕ)
     → IsHistory (suc (length splits)) (place ∷ earlier) → IsStateOf splits i earlier floor f
-    → floor ≤ place.version - window
+    → floor ≤ place.horizon
     → (admits splits i earlier place ≡ true) ↔ IsAdmittedBy splits i f place
 
 -- A state takes a place in by the resolver's part of its write set alone, and answers from the same floor on.

@@ -9,14 +9,15 @@ use Rattle.fdb_txn.specs.book.Book.{Place, seen_of}
 use Rattle.fdb_txn.specs.rules.Admission.{committed}
 use Rattle.fdb_txn.specs.book.Places.{place_at}
 use Rattle.fdb_txn.specs.book.Once.{NoIdTwice}
-use Rattle.fdb_txn.specs.book.History.{IsBook, IsSealed, IsHistory, AreEntries}
+use Rattle.fdb_txn.specs.book.History.{IsBook, IsSealed, IsHistory, AreEntries, HorizonsRise}
 use Rattle.fdb_txn.specs.rules.SerialMap.{serial_map, serial_map_at}
 
--- a book of sealed transactions is a list of entries after version 0 that has no id twice
+-- a book of sealed transactions is a list of entries after version 0 that has no id twice and whose horizons never fall
 abbrev pub BooksAreEntries : Type 0
 BooksAreEntries =
     (resolvers : ℕ) (book : List Entry)
-    → (IsBook resolvers book × AllByRecursion IsSealed book) ↔ (AreEntries resolvers 0 book × NoIdTwice book)
+    → (IsBook resolvers book × AllByRecursion IsSealed book) ↔ (AreEntries resolvers 0 book × NoIdTwice book
+    × HorizonsRise 0 book)
 
 -- the places of a book are a history
 abbrev pub PlacesAreHistory : Type 0
@@ -70,3 +71,13 @@ abbrev pub EntriesGoOn : Type 0
 EntriesGoOn =
     (resolvers last : ℕ) (book : List Entry) (entry : Entry) → AreEntries resolvers last book
     → AreEntries resolvers (version_after last book) (entry ∷ []) → AreEntries resolvers last (book ++ entry ∷ [])
+
+-- the horizon of the last entry, else that after which the first one would come
+abbrev pub horizon_after : ℕ → List Entry → ℕ
+horizon_after last book = fold (λ (before : ℕ) (entry : Entry). entry.horizon) last book
+
+-- horizons never fall exactly where they don't among the first entries, and then among those after these
+abbrev pub HorizonsPart : Type 0
+HorizonsPart =
+    (last : ℕ) (book more : List Entry)
+    → HorizonsRise last (book ++ more) ↔ (HorizonsRise last book × HorizonsRise (horizon_after last book) more)

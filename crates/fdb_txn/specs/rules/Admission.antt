@@ -1,18 +1,18 @@
 -- Who admits a transaction, and which transactions are committed.
-use Rattle.std.specs.Prelude.{ℕ, zero, suc, ◌+◌, Bool, true, not, ◌&&◌, ◌==◌, nat_lt, List, [], ◌∷◌, ◌++◌, length}
+use Rattle.std.specs.Prelude.{ℕ, zero, suc, Bool, true, not, ◌&&◌, ◌==◌, nat_lt, List, [], ◌∷◌, ◌++◌, length}
 use Rattle.std.specs.List.{list_any}
 use Rattle.fdb_keys.specs.Points.{Point, point_lt}
 use Rattle.fdb_keys.specs.Ranges.{Range, in_set}
 use Rattle.fdb_txn.specs.book.Book.{Place}
-use Rattle.fdb_txn.specs.rules.Owners.{window, owner, corners}
+use Rattle.fdb_txn.specs.rules.Owners.{owner, corners}
 
 -- the set has a point
 abbrev pub has_points : List Range → Bool
 has_points ranges = list_any (λ (range : Range). point_lt range.begin range.end) ranges
 
--- The transaction is not old: it has no read range, or its read version lies in the window.
+-- the transaction is not old: it has no read range, or its read version isn't below the horizon
 abbrev pub is_fresh : Place → Bool
-is_fresh place = not (has_points place.transaction.reads && nat_lt (place.transaction.read + window) place.version)
+is_fresh place = not (has_points place.transaction.reads && nat_lt place.transaction.read place.horizon)
 
 -- the point was written at the earlier place, read at the later one, and resolver i owned it at the
 -- earlier one's version

@@ -1,14 +1,10 @@
 -- Which resolver owns a point at a version, and which resolvers are asked about a place.
-use Rattle.std.specs.Prelude.{ℕ, suc, ◌-◌, max, Bool, ◌&&◌, ◌||◌, ◌==◌, nat_lt, nat_le, List, [], ◌∷◌, ◌++◌, map}
+use Rattle.std.specs.Prelude.{ℕ, suc, max, Bool, ◌&&◌, ◌||◌, ◌==◌, nat_lt, nat_le, List, [], ◌∷◌, ◌++◌, map}
 use Rattle.std.specs.Prelude.{if◌then◌else◌}
 use Rattle.std.specs.List.{list_any}
 use Rattle.fdb_keys.specs.Points.{Point, point_lt}
 use Rattle.fdb_keys.specs.Ranges.{Range, in_range, in_set}
 use Rattle.fdb_txn.specs.book.Book.{Stamped, Place}
-
--- reads older than this many versions are no longer judged
-abbrev pub window : ℕ
-window = 5000000
 
 -- the number of the piece between splits in which the point lies
 abbrev pub first_owner : List Point → Point → ℕ
@@ -42,7 +38,7 @@ owned splits i moves x low high =
 
 -- reads are asked of whoever owned them at a version after this one
 abbrev pub span_begin : Place → ℕ
-span_begin place = max place.transaction.read (place.version - window)
+span_begin place = max place.transaction.read place.horizon
 
 -- resolver i is asked on account of the point
 abbrev pub asked_at : List Point → ℕ → Place → Point → Bool

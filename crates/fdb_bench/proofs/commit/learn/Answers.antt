@@ -6,9 +6,11 @@ use Rattle.fdb_bench.proofs.commit.learn.Goals as goal
 pub learn-requires : goal.learn-requires
 learn-requires c =
     record {
-      targets = c.requires.targets (length c.args.core.now.proxy.owners.splits);
-      rising = c.requires.rising;
+      targets = c.requires.moves.moves.targets (length c.args.core.now.proxy.owners.splits);
+      rising = c.requires.moves.moves.rising;
       later =
           subst (AllByRecursion (λ (t : Transaction). t.read < c.args.ticket.now.version)) c.batch.ensures.value
           (c.if-not-reads_below.ensures refl);
+      horizon = c.requires.floor;
+      below = c.requires.moves.below;
     }

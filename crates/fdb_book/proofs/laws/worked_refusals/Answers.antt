@@ -15,6 +15,15 @@ returns-clause-appends c = (
   refl,
 )
 
+pub returns-clause-horizons : goal.returns-clause-horizons
+returns-clause-horizons c = (
+  refl,
+  refl,
+  refl,
+  refl,
+  refl,
+)
+
 pub returns-clause-capacities : goal.returns-clause-capacities
 returns-clause-capacities c = (
   refl,

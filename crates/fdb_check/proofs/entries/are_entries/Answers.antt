@@ -19,7 +19,8 @@ returns-then-not-may_follow c =
     let there : slice_get book i ≡ Some entry = slice_get_read book (length book) i entry refl within c.entry-item.is in
     answers-not (λ entries. both_ways _ c.if-not-may_follow.true
     (c.may_follow.ensures.1
-    (follows-there c.args.resolvers book i c.loop-entry.last entry there c.loop-entry.invariant entries)))
+    (follows-there c.args.resolvers book i c.loop-entry.last c.loop-entry.horizon entry there
+    c.loop-entry.invariant entries)))
 
 pub loop-entry-preserved : goal.loop-entry-preserved
 loop-entry-preserved c =
@@ -28,14 +29,14 @@ loop-entry-preserved c =
     let entry = c.entry-item.result in
     let within : i < length book = search rules in
     let there : slice_get book i ≡ Some entry = slice_get_read book (length book) i entry refl within c.entry-item.is in
-    subst (λ (n : ℕ). FollowFrom c.args.resolvers book n entry.version) (sym (add-one i))
-    (follow-next c.args.resolvers book i c.loop-entry.last entry there c.loop-entry.invariant
+    subst (λ (n : ℕ). FollowFrom c.args.resolvers book n entry.version entry.horizon) (sym (add-one i))
+    (follow-next c.args.resolvers book i c.loop-entry.last c.loop-entry.horizon entry there c.loop-entry.invariant
     (all-at IsSealed book i entry c.know_sealed.ensures there) (c.may_follow.ensures.0 c.if-not-may_follow.false))
 
 pub returns : goal.returns
 returns c =
     let ended : length c.args.book.now ≤ c.loop-entry.entry-index = omega arith in (
-      λ yes. follow-all c.args.resolvers c.args.book.now c.loop-entry.entry-index c.loop-entry.last ended
-          c.loop-entry.invariant,
+      λ yes. follow-all c.args.resolvers c.args.book.now c.loop-entry.entry-index c.loop-entry.last
+          c.loop-entry.horizon ended c.loop-entry.invariant,
       λ entries. refl,
     )

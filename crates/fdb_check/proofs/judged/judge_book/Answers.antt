@@ -2,9 +2,8 @@ use Rattle.std.proofs.Common.{sym, subst, suc, length, List, []}
 use Rattle.std.proofs.lemmas.Result.{err_from_is_err_and}
 use Rattle.fdb_keys.specs.Points.{Point}
 use Rattle.fdb_txn.specs.Limits.{resolver_limit}
-use Rattle.fdb_txn.specs.book.History.{AreEntries}
 use Rattle.fdb_txn.specs.rules.Splits.{splits_fault}
-use Rattle.fdb_check.specs.Judged.{AreJudged}
+use Rattle.fdb_check.specs.Judged.{AreJudged, FollowOn}
 use Rattle.fdb_check.specs.Judging.{IsJudgeAt}
 use Rattle.fdb_roles.proofs.Exports.{answers-fault, lacks-memory}
 use Rattle.fdb_check.proofs.judged.judge_book.Goals as goal
@@ -22,7 +21,7 @@ judge_entries-requires-clause-entries c =
     let splits = c.args.splits.now in
     let at = (answers-fault (splits_fault resolver_limit splits) c.in_ok-judge.judge (IsJudgeAt splits [])
     c.in_ok-judge.ensures).1 in
-    subst (λ (by : List Point). AreEntries (suc (length by)) 0 c.args.book.now) (sym at.splits_are) c.requires.entries
+    subst (λ (by : List Point). FollowOn (suc (length by)) 0 0 c.args.book.now) (sym at.splits_are) c.requires.entries
 
 pub judge_entries-requires-clause-first : goal.judge_entries-requires-clause-first
 judge_entries-requires-clause-first c =

@@ -192,6 +192,7 @@ module _ (k : Cluster) (refines : Refines k) (proxy : ℕ) (role : CommitProxyRo
               each_pooled = length-set k.messages.items role.entry (Some messages) ∙ book.each_pooled;
               made = made-set k.config k.book.items k.decided.items k.messages.items role.entry entry messages
                   entry-there sent within flagged book.made;
+              horizons = refines.book.horizons;
             };
             parts = refines.parts;
             resolvers = refines.resolvers;

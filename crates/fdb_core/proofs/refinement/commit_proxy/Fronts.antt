@@ -20,7 +20,7 @@ use Rattle.fdb_proxy.specs.Parting.{AreParts}
 use Rattle.fdb_proxy.specs.Verdicts.{moves_through, verdicts_on, outcomes_on}
 use Rattle.fdb_core.specs.declared.roles.commit_proxy.CommitProxyRole.{CommitProxyRole}
 use Rattle.fdb_roles.specs.ProxyLaws.{IsLastEntry}
-use Rattle.fdb_roles.specs.ProxyStages.{IsBatchOf, IsResolving, IsLogging, IsStageAt, IsSaid}
+use Rattle.fdb_roles.specs.ProxyStages.{IsBatchOf, IsResolving, IsLogging, IsStageAt, IsSaid, position_in}
 use Rattle.fdb_core.specs.refinement.commit_proxy.Ties.{CommitProxyRefines, Known, StageRefines}
 use Rattle.fdb_roles.proofs.Exports.{front-at, seen-front}
 
@@ -48,6 +48,7 @@ module _ (front behind : List Entry) (i : ℕ) (entry : Entry) (within : i < len
     index = its.index;
     version = its.version;
     prev = its.prev;
+    horizon = its.horizon;
     places = its.places;
   }
 
@@ -55,7 +56,7 @@ module _ (front behind : List Entry) (i : ℕ) (entry : Entry) (within : i < len
       → IsResolving splits (front ++ behind) i entry resolving
   resolving-whole splits resolving is = record {
     parts = subst (λ (s : Seen). AreParts splits (moves_through s entry)
-        (record { index = i; version = entry.version; prev = entry.prev }) entry.batch resolving.parts) seen-whole
+        (position_in i entry) entry.batch resolving.parts) seen-whole
         is.parts;
     count = is.count;
     came = λ r said there. is.came r said there ∙ ap (λ (s : Seen). verdicts_on splits r s entry) seen-whole;

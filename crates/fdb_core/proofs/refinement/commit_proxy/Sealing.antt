@@ -1,6 +1,6 @@
 -- A commit proxy of a world seals a batch by the sequencer's ticket.
 use Rattle.std.proofs.Common.{◌≡◌, ◌≢◌, ◌∙◌, refl, sym, ap, subst, ℕ, suc, ◌<◌, ◌≤◌, List, [], ◌∷◌, ◌++◌, length, take}
-use Rattle.std.proofs.Common.{map, false, Some, Err, slice_get, slice_set}
+use Rattle.std.proofs.Common.{map, false, Some, Err, slice_get, slice_set, le_refl}
 use Rattle.std.proofs.Common.{arith}
 use Rattle.std.specs.List.{AllByRecursion}
 use Rattle.std.proofs.lemmas.List.{length-append, length-map}
@@ -9,7 +9,7 @@ use Rattle.fdb_keys.specs.declared.refusal.Refusal.TheVariants.{Unknown, WrongSt
 use Rattle.fdb_txn.specs.Limits.{place_limit}
 use Rattle.fdb_txn.specs.declared.entry.Entry.{Entry}
 use Rattle.fdb_txn.specs.declared.entry.Move.{Move}
-use Rattle.fdb_txn.specs.book.Book.{Seen, seen_before, last_version}
+use Rattle.fdb_txn.specs.book.Book.{Seen, seen_before, last_version, last_horizon, next_horizon}
 use Rattle.fdb_txn.specs.book.History.{AreEntries}
 use Rattle.fdb_txn.specs.book.Transactions.{Transaction, NamesWrites}
 use Rattle.fdb_client.proofs.Exports.{commit_request_of-names}
@@ -18,6 +18,7 @@ use Rattle.fdb_resolver.specs.declared.part.Part.{Part}
 use Rattle.fdb_sequencer.specs.declared.ticket.Ticket.{Ticket}
 use Rattle.fdb_sequencer.specs.Moves.{dated}
 use Rattle.fdb_sequencer.specs.Sequencer.{Sequencer, accepting, next_version, unlearnt_by}
+use Rattle.fdb_proxy.specs.CommitProxies.{position_of}
 use Rattle.fdb_proxy.specs.Parting.{AreParts}
 use Rattle.fdb_proxy.specs.Verdicts.{moves_through}
 use Rattle.fdb_core.specs.declared.cluster.Cluster.{Cluster}
@@ -26,12 +27,12 @@ use Rattle.fdb_core.specs.declared.roles.resolver.ResolverRole.{ResolverRole}
 use Rattle.fdb_machine.specs.machine.CommitProxySteps.{seals, is_idle, with_batch}
 use Rattle.fdb_core.specs.refinement.Cluster.{machine_of, CommitProxiesRefine, Refines, SequencerRefines}
 use Rattle.fdb_core.specs.refinement.commit_proxy.Ties.{CommitProxyRefines, Known, known_to, IsNextTicket, Seals}
-use Rattle.fdb_roles.specs.ProxyStages.{ArePartsOf}
+use Rattle.fdb_roles.specs.ProxyStages.{ArePartsOf, position_in}
 use Rattle.fdb_core.specs.refinement.commit_proxy.Ties.{ReadsWithin, seen_as}
 use Rattle.fdb_roles.specs.Entries.{entry_of}
 use Rattle.fdb_core.specs.refinement.resolver.Resolving.{taken_by}
 use Rattle.fdb_roles.proofs.Exports.{all-map, all-take, last-push, seen-before-last, map-at, handed-own, handed-other}
-use Rattle.fdb_roles.proofs.Exports.{handed-count, moves_in-push}
+use Rattle.fdb_roles.proofs.Exports.{handed-count, horizon-within, moves_in-push, last_horizon-push}
 use Rattle.fdb_core.proofs.refinement.commit_proxy.Receiving.{past-end}
 use Rattle.fdb_core.proofs.refinement.commit_proxy.Ties.{commit_proxies-set}
 use Rattle.fdb_core.proofs.refinement.commit_proxy.Pushes.{commit_proxy-push}
@@ -46,6 +47,7 @@ ticket_for k proxy advance =
       index = length k.book.items;
       version = version;
       prev = last_version k.book.items;
+      horizon = next_horizon (last_horizon k.book.items) k.sequencer.window version;
       moves = unlearnt_by k.sequencer proxy ++ dated version k.sequencer.pending;
       pending = k.sequencer.pending;
     }
@@ -76,6 +78,23 @@ module _ (k : Cluster) (refines : Refines k) (proxy advance : ℕ) (role : Commi
       let is : ticket.version ≡ next_version (last_version k.book.items) advance =
       ap (λ (t : Ticket). t.version) given in omega (arith, is)
 
+  horizon-is : ticket.horizon ≡ next_horizon (last_horizon k.book.items) k.sequencer.window ticket.version
+  horizon-is = subst (λ (t : Ticket). t.horizon
+      ≡ next_horizon (last_horizon k.book.items) k.sequencer.window t.version) (sym given) refl
+
+  -- its horizon hasn't fallen
+  pub rises : last_horizon k.book.items ≤ ticket.horizon
+  rises = omega (arith, horizon-is)
+
+  below-version : ticket.horizon < ticket.version
+  below-version = omega (
+    arith,
+    above,
+    horizon-is,
+    refines.sequencer.window,
+    horizon-within (suc (length k.config.resolver_splits)) 0 0 k.book.items (le_refl 0) refines.book.entries,
+  )
+
   pending-is : ticket.pending ≡ k.sequencer.pending
   pending-is = ap (λ (t : Ticket). t.pending) given
 
@@ -90,6 +109,8 @@ module _ (k : Cluster) (refines : Refines k) (proxy advance : ℕ) (role : Commi
         (sym pending-is)
         (subst (λ (n : ℕ). AllByRecursion (λ (move : Move). move.to < n) k.sequencer.pending)
         refines.sequencer.resolvers refines.sequencer.targets);
+    horizon = rises;
+    below = below-version;
   }
 
   -- what waits read below the ticket's version
@@ -115,6 +136,7 @@ module _ (k : Cluster) (refines : Refines k) (proxy advance : ℕ) (role : Commi
     entry-is = λ i. record {
       version = (given i).version;
       prev = (given i).prev;
+      horizon = (given i).horizon;
       moves = (given i).pending;
       batch = seals.batch_is i;
     }
@@ -132,7 +154,7 @@ module _ (k : Cluster) (refines : Refines k) (proxy advance : ℕ) (role : Commi
     follows =
         let later_than = above in (
           later_than,
-          ap (λ (t : Ticket). t.prev) given,
+          (ap (λ (t : Ticket). t.prev) given, below-version),
           next-ticket.targets,
           subst (AllByRecursion (λ (t : Transaction). (t.read < ticket.version) × NamesWrites t)) (sym seals.batch_is)
               (all-map (ReadsWithin k.sequencer.committed)
@@ -157,10 +179,9 @@ module _ (k : Cluster) (refines : Refines k) (proxy advance : ℕ) (role : Commi
         let seen = seen-before-last k.book.items entry in
         subst (λ (n : ℕ). AreParts k.config.resolver_splits
         (moves_through (seen_before (k.book.items ++ entry ∷ []) (length k.book.items)) entry)
-        (record { index = n; version = ticket.version; prev = ticket.prev }) batch parts) number
+        (position_in n entry) batch parts) number
         (subst (λ (s : Seen). AreParts k.config.resolver_splits (moves_through s entry)
-        (record { index = ticket.index; version = ticket.version; prev = ticket.prev }) batch parts) (sym seen)
-        seals.parts_are)
+        (position_of ticket) batch parts) (sym seen) seals.parts_are)
 
     -- what the sequencer has for the proxies once it accepted the ticket
     abbrev pub issued : Sequencer
@@ -224,4 +245,6 @@ module _ (k : Cluster) (refines : Refines k) (proxy advance : ℕ) (role : Commi
             moves_in-push k.book.items entry,
             ap (λ (moves : List Move). length moves) pending-is,
           );
+          horizon = sym (last_horizon-push k.book.items entry);
+          window = was.window;
         }

@@ -7,10 +7,10 @@ use Rattle.std.proofs.lemmas.Bool.{true≢false}
 use Rattle.std.proofs.lemmas.List.{append-nil, append_assoc}
 use Rattle.fdb_txn.specs.Limits.{place_limit}
 use Rattle.fdb_txn.specs.declared.entry.Entry.{Entry}
-use Rattle.fdb_txn.specs.book.Book.{seen_of, last_version}
-use Rattle.fdb_txn.specs.book.History.{AreEntries}
+use Rattle.fdb_txn.specs.book.Book.{seen_of, last_version, last_horizon}
+use Rattle.fdb_txn.specs.book.History.{AreEntries, HorizonsRise}
 use Rattle.fdb_txn.specs.book.Transactions.{Transaction}
-use Rattle.fdb_txn.proofs.Exports.{entries_go_on}
+use Rattle.fdb_txn.proofs.Exports.{entries_go_on, horizons_part}
 use Rattle.fdb_resolver.specs.declared.part.Part.{Part}
 use Rattle.fdb_sequencer.specs.declared.ticket.Ticket.{Ticket}
 use Rattle.fdb_sequencer.specs.declared.dated.Dated.{Dated}
@@ -34,7 +34,7 @@ use Rattle.fdb_core.specs.refinement.commit_proxy.Ties.{CommitProxyRefines, Know
 use Rattle.fdb_core.specs.refinement.commit_proxy.Ties.{HasBatch, Seals, ReadsWithin, stage_of, seen_as}
 use Rattle.fdb_roles.proofs.Exports.{all-take, all-drop, IsLearnt, is-learnt, ticket-fits, ticket-learns}
 use Rattle.fdb_roles.proofs.Exports.{requests_come_and_go, dated_moves-append, dated_moves-push, entries-behind}
-use Rattle.fdb_roles.proofs.Exports.{ticket-after}
+use Rattle.fdb_roles.proofs.Exports.{rise-lower, ticket-after}
 use Rattle.fdb_core.proofs.refinement.commit_proxy.Ties.{idle-seen}
 
 -- fronts and rests of what is made of a list
@@ -58,7 +58,7 @@ module _ (config : Config) (book : List Entry) (known : Known) (role : CommitPro
     (ok : CommitProxyRefines config book known role)
     (idle : is_idle (stage_of role.is_reported role.state.proxy.stage) ≡ true) (ticket : Ticket)
     (next : IsNextTicket config book known ticket)
-    (entries : AreEntries (suc (length config.resolver_splits)) 0 book) where
+    (entries : AreEntries (suc (length config.resolver_splits)) 0 book) (rise : HorizonsRise 0 book) where
   -- an entry of the ticket, whatever its batch, comes after the book's
   abbrev empty : Entry
   empty = entry_of ticket []
@@ -66,13 +66,24 @@ module _ (config : Config) (book : List Entry) (known : Known) (role : CommitPro
   follows : AreEntries (suc (length config.resolver_splits)) 0 ((ok.front ++ ok.behind) ++ empty ∷ [])
   follows = subst (λ (all : List Entry). AreEntries (suc (length config.resolver_splits)) 0 (all ++ empty ∷ []))
       (sym ok.whole) (entries_go_on (suc (length config.resolver_splits)) 0 book empty entries
-      (next.later, next.prev, next.targets, tt, tt))
+      (next.later, (next.prev, next.below), next.targets, tt, tt))
+
+  -- horizons don't fall below what the proxy forgot
+  abbrev floor : ℕ
+  floor = role.state.proxy.owners.floor
+
+  risen : HorizonsRise floor (ok.behind ++ empty ∷ [])
+  risen = rise-lower floor (last_horizon ok.front) (ok.behind ++ empty ∷ []) ok.state.floor
+      ((horizons_part 0 ok.front (ok.behind ++ empty ∷ [])).0
+      (subst (HorizonsRise 0) (append_assoc ok.front ok.behind (empty ∷ []))
+      (subst (λ (all : List Entry). HorizonsRise 0 (all ++ empty ∷ [])) (sym ok.whole)
+      ((horizons_part 0 book (empty ∷ [])).1 (rise, (next.horizon, tt)))))).1
 
   -- so the ticket may be learnt
-  may : MayBeLearnt (suc (length config.resolver_splits)) role.state.proxy.last ticket
-  may = subst (λ (last : ℕ). MayBeLearnt (suc (length config.resolver_splits)) last ticket) (sym ok.state.last)
-      (ticket-after (suc (length config.resolver_splits)) (last_version ok.front) ok.behind empty ticket
-      (entries-behind (suc (length config.resolver_splits)) ok.front ok.behind empty follows) refl
+  may : MayBeLearnt (suc (length config.resolver_splits)) role.state.proxy.last floor ticket
+  may = subst (λ (last : ℕ). MayBeLearnt (suc (length config.resolver_splits)) last floor ticket) (sym ok.state.last)
+      (ticket-after (suc (length config.resolver_splits)) (last_version ok.front) floor ok.behind empty ticket
+      (entries-behind (suc (length config.resolver_splits)) ok.front ok.behind empty follows) risen refl refl
       (next.moves ∙ ap (λ (moves : List Dated). moves ++ dated ticket.version ticket.pending) ok.unlearnt
       ∙ sym (dated_moves-push ok.behind empty)))
 
@@ -140,7 +151,7 @@ module _ (config : Config) (book : List Entry) (known : Known) (role : CommitPro
 
     its : IsLearnt config book (sealing role.state.proxy) later.state.proxy ticket learnt.resolving
     its = is-learnt config ok.front book (sealing role.state.proxy) later.state.proxy ticket
-        (requests_come_and_go config ok.front role.state.proxy ok.state).1 learnt next.index moves-grown
+        (requests_come_and_go config ok.front role.state.proxy ok.state).1 learnt next.index may.horizon moves-grown
 
     machine-is : seen_as later ≡ with_batch (seen_as role) ticket.index (suc (length config.resolver_splits))
     machine-is = ap seen_as same ∙ rw its.stage (λ i. record {

@@ -175,7 +175,7 @@ prev-from : (resolvers last : ℕ) (book : List Entry) (i : ℕ) (entry : Entry)
     → slice_get book i ≡ Some entry → entry.prev ≡ version_after last (take i book)
 prev-from resolvers last [] i entry entries there = cc
 prev-from resolvers last (first ∷ book) zero entry entries there =
-    let same : first ≡ entry = cc in subst (λ (e : Entry). e.prev ≡ last) same entries.1
+    let same : first ≡ entry = cc in subst (λ (e : Entry). e.prev ≡ last) same entries.1.0
 prev-from resolvers last (first ∷ book) (suc i) entry entries there =
     prev-from resolvers first.version book i entry entries.4 there
 

@@ -33,15 +33,16 @@ use Rattle.fdb_core.proofs.refinement.StepLemmas.{NamesWhatIsThere, in-turn}
 -- there is a verdict for each item of the part
 pub as-many : (part : Part) (old : Resolver) (verdicts : Verdicts) → IsAnswer old part verdicts
     → length verdicts.answers ≡ length part.items
-as-many part old verdicts is = count part.version (version_at old.versions) part.items verdicts.answers is.answers
+as-many part old verdicts is =
+    count part.version part.horizon (version_at old.versions) part.items verdicts.answers is.answers
   where
-    count : (version : ℕ) (f : Point → ℕ) (items : List Item) (answers : List (ℕ × Verdict))
-        → AreVerdicts version f items answers → length answers ≡ length items
-    count version f [] [] all = refl
-    count version f [] (answer ∷ answers) all = absurd all
-    count version f (item ∷ items) [] all = absurd all
-    count version f (item ∷ items) (answer ∷ answers) all =
-        ap suc (count version (versions_with version item answer.1 f) items answers all.2)
+    count : (version horizon : ℕ) (f : Point → ℕ) (items : List Item) (answers : List (ℕ × Verdict))
+        → AreVerdicts version horizon f items answers → length answers ≡ length items
+    count version horizon f [] [] all = refl
+    count version horizon f [] (answer ∷ answers) all = absurd all
+    count version horizon f (item ∷ items) [] all = absurd all
+    count version horizon f (item ∷ items) (answer ∷ answers) all =
+        ap suc (count version horizon (versions_with version item answer.1 f) items answers all.2)
 
 -- one that took nothing and whose state is as it was is what it was
 resolver-same : (splits : List Point) (book : List Entry) (i : ℕ) (role later : ResolverRole)

@@ -1,5 +1,5 @@
 -- A resolver takes its part of the next entry.
-use Rattle.std.proofs.Common.{◌≡◌, ◌∙◌, refl, sym, ap, subst, ℕ, suc, ◌+◌, ◌<◌, List, [], ◌∷◌, ◌++◌, length, take}
+use Rattle.std.proofs.Common.{◌≡◌, ◌∙◌, refl, sym, ap, subst, ℕ, suc, ◌+◌, ◌<◌, List, [], ◌∷◌, ◌++◌, length, take, ◌≤◌}
 use Rattle.std.proofs.Common.{get_or, Some, None, Result, Ok, Err, slice_get, slice_set, ⊎_elim, arith}
 use Rattle.std.specs.Vec.{with_item}
 use Rattle.std.proofs.lemmas.Bool.{cases_lt}
@@ -10,8 +10,8 @@ use Rattle.fdb_keys.specs.Points.{Point}
 use Rattle.fdb_keys.specs.declared.refusal.Refusal.{Refusal}
 use Rattle.fdb_keys.specs.declared.refusal.Refusal.TheVariants.{NoMemory}
 use Rattle.fdb_txn.specs.declared.entry.Entry.{Entry}
-use Rattle.fdb_txn.specs.book.Book.{seen_of, seen_before}
-use Rattle.fdb_txn.specs.book.History.{AreEntries}
+use Rattle.fdb_txn.specs.book.Book.{seen_of, seen_before, last_horizon}
+use Rattle.fdb_txn.specs.book.History.{AreEntries, HorizonsRise}
 use Rattle.fdb_resolver.specs.declared.part.Part.{Part}
 use Rattle.fdb_resolver.specs.Parts.{IsPart}
 use Rattle.fdb_resolver.specs.declared.verdict.Verdict.{Verdict}
@@ -24,18 +24,19 @@ use Rattle.fdb_core.specs.declared.cluster.Cluster.{Cluster}
 use Rattle.fdb_machine.specs.declared.step.Answered.TheVariants as answered
 use Rattle.fdb_machine.specs.machine.RoleSteps.{resolves}
 use Rattle.fdb_core.specs.refinement.Cluster.{machine_of, Refines}
-use Rattle.fdb_roles.specs.ProxyStages.{ArePartsOf}
+use Rattle.fdb_roles.specs.ProxyStages.{ArePartsOf, position_in}
 use Rattle.fdb_core.specs.refinement.resolver.Resolving.{ResolverRefines, ResolversRefine, TakesNext, taken_by}
 use Rattle.fdb_core.proofs.refinement.RolesLemmas.{roles_of, roles-refine}
 use Rattle.fdb_roles.specs.AtBook.{IsResolverAt}
 use Rattle.fdb_roles.proofs.Exports.{within-item, answers-fault, hands-on, each-set, front-at, last-at, map-at, map-set}
-use Rattle.fdb_roles.proofs.Exports.{one-item, entries-take, take-next, follows, are-parts, may-take, takes}
+use Rattle.fdb_roles.proofs.Exports.{one-item, entries-take, last-risen, rise-take, take-next, follows, are-parts}
+use Rattle.fdb_roles.proofs.Exports.{may-take, takes}
 use Rattle.fdb_machine.proofs.Exports.{resolves-transition}
 
 module _ (splits : List Point) (before : List Entry) (entry : Entry) (i index : ℕ) (old : ResolverRole)
     (at : IsResolverAt splits before i old.state) (entries : AreEntries (suc (length splits)) 0 (before ++ entry ∷ []))
-    (part : Part) (of : IsPartOf splits (moves_through (seen_of before) entry)
-    (record { index = index; version = entry.version; prev = entry.prev }) entry.batch i part) where
+    (risen : last_horizon before ≤ entry.horizon) (part : Part)
+    (of : IsPartOf splits (moves_through (seen_of before) entry) (position_in index entry) entry.batch i part) where
   no-fault : part_fault old.state part ≡ None
   no-fault = may-take splits before entry entries index i old.state part at of
 
@@ -55,7 +56,7 @@ module _ (splits : List Point) (before : List Entry) (entry : Entry) (i index : 
       → TakesNext splits before entry i index old answer new
   takes-next later verdicts answer new said taken same core_is count added =
       let is = (answers-fault (part_fault old.state part) verdicts (IsAnswer old.state part) said).1 in
-      let took = takes splits before entry entries index i old.state part at of later (Some verdicts.answers)
+      let took = takes splits before entry entries index i old.state part at of risen later (Some verdicts.answers)
       (record { verdicts = verdicts; said_them = refl; answer = is; taken = taken }) in
       let rule : verdicts.answers ≡ verdicts_on splits i (seen_of before) entry = same-some verdicts.answers _ took.0 in
       record {
@@ -89,6 +90,10 @@ module _ (k : Cluster) (refines : Refines k) (i r : ℕ) (entry : Entry) (role :
   entries-here = subst (AreEntries (suc (length splits)) 0) front
       (entries-take (suc (length splits)) 0 (suc i) book refines.book.entries)
 
+  risen-here : last_horizon (take i book) ≤ entry.horizon
+  risen-here = last-risen (take i book) entry (subst (HorizonsRise 0) front
+      (rise-take 0 (suc i) book refines.book.horizons))
+
   ok : ResolverRefines splits book r role
   ok = refines.resolvers.each r role at
 
@@ -113,7 +118,7 @@ module _ (k : Cluster) (refines : Refines k) (i r : ℕ) (entry : Entry) (role :
 
     module _ (part : Part) (here : slice_get of r ≡ Some part) where
       pub part-of : IsPartOf splits (moves_through (seen_of (take i book)) entry)
-          (record { index = i; version = entry.version; prev = entry.prev }) entry.batch r part
+          (position_in i entry) entry.batch r part
       part-of = all-parts.each r part here
 
       pub part-is : IsPart part
@@ -123,7 +128,7 @@ module _ (k : Cluster) (refines : Refines k) (i r : ℕ) (entry : Entry) (role :
           let on = follows-on.1 in
           subst IsPart (get_or_from_slice_get of r part part here)
           (are-parts splits (moves_through (seen_of (take i book)) entry)
-          (record { index = i; version = entry.version; prev = entry.prev }) entry.batch of
+          (position_in i entry) entry.batch of
           (omega (arith, above, on)) all-parts r part part-within)
 
   -- it has taken it
@@ -252,9 +257,9 @@ module _ (k : Cluster) (refines : Refines k) (i r : ℕ) (role : ResolverRole) (
     abbrev Takes : (result : Result (List (ℕ × Verdict)) Refusal) → ResolverRole → Type 0
     Takes result later =
         (by : List Point) (before : List Entry) (entry : Entry) (n index : ℕ) → IsResolverAt by before n role.state
-        → AreEntries (suc (length by)) 0 (before ++ entry ∷ [])
+        → AreEntries (suc (length by)) 0 (before ++ entry ∷ []) → last_horizon before ≤ entry.horizon
         → IsPartOf by (moves_through (seen_of before) entry)
-        (record { index = index; version = entry.version; prev = entry.prev }) entry.batch n part
+        (position_in index entry) entry.batch n part
         → Answers result None (λ answer. TakesNext by before entry n index role answer later)
 
     takes-here : (result : Result (List (ℕ × Verdict)) Refusal) (later : ResolverRole) → Takes result later
@@ -263,6 +268,7 @@ module _ (k : Cluster) (refines : Refines k) (i r : ℕ) (role : ResolverRole) (
     takes-here result later takes = takes k.config.resolver_splits (take i k.book.items) found.entry r i
         (at-entry k refines i r found.entry role found.there found.at found.due)
         (entries-here k refines i r found.entry role found.there found.at found.due)
+        (risen-here k refines i r found.entry role found.there found.at found.due)
         (part-of k refines i r found.entry role found.there found.at found.due of found.its part here)
 
     pub found-lacks : (why : Refusal) (later : ResolverRole) → Takes (Err why) later → why ≡ NoMemory

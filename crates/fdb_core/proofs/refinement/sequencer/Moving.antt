@@ -36,6 +36,8 @@ module _ (k : Cluster) (refines : Refines k) (range : Range) (to : ℕ) where
         count = was.count;
         targets = pending_exist k.sequencer own fault was.targets;
         made = omega (arith, was.made, length-append k.sequencer.pending (own ∷ []));
+        horizon = was.horizon;
+        window = was.window;
       }
 
   -- and so does the world

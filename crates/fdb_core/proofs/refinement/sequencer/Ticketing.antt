@@ -17,7 +17,7 @@ use Rattle.fdb_core.specs.refinement.Cluster.{machine_of, Refines}
 use Rattle.fdb_core.specs.refinement.commit_proxy.Ties.{seen_as}
 use Rattle.fdb_roles.proofs.Exports.{map-at}
 use Rattle.fdb_core.proofs.refinement.commit_proxy.Sealing.{ticket_for}
-use Rattle.fdb_txn.specs.book.Book.{last_version}
+use Rattle.fdb_txn.specs.book.Book.{last_version, next_horizon}
 use Rattle.fdb_machine.specs.machine.CommitProxySteps.{seals, is_idle}
 
 module _ (k : Cluster) (refines : Refines k) (proxy advance : ℕ) (role : CommitProxyRole)
@@ -80,6 +80,8 @@ module _ (k : Cluster) (refines : Refines k) (proxy advance : ℕ) (role : Commi
           index = refines.sequencer.accepted i;
           version = next_version (refines.sequencer.last i) advance;
           prev = refines.sequencer.last i;
+          horizon = next_horizon (refines.sequencer.horizon i) k.sequencer.window
+              (next_version (refines.sequencer.last i) advance);
           moves = unlearnt_by k.sequencer proxy ++ dated (next_version (refines.sequencer.last i) advance)
               k.sequencer.pending;
           pending = k.sequencer.pending;

@@ -7,7 +7,7 @@ use Rattle.fdb_txn.specs.declared.entry.Entry.{Entry}
 use Rattle.fdb_txn.specs.declared.entry.Move.{Move}
 use Rattle.fdb_txn.specs.declared.txn_id.TxnId.{TxnId}
 use Rattle.fdb_txn.specs.book.Transactions.{Transaction}
-use Rattle.fdb_txn.specs.book.Book.{seen_of, seen_before, last_version}
+use Rattle.fdb_txn.specs.book.Book.{seen_of, seen_before, last_version, last_horizon}
 use Rattle.fdb_txn.specs.Limits.{place_limit}
 use Rattle.fdb_resolver.specs.declared.part.Part.{Part}
 use Rattle.fdb_sequencer.specs.declared.ticket.Ticket.{Ticket}
@@ -109,13 +109,16 @@ pub record IsNewCommitProxy (config : Config) (role : CommitProxyRole) : Type 0 
   pub machine : seen_as role ≡ idle_proxy
   pub refines : CommitProxyRefines config [] (record { committed = 0; unlearnt = [] }) role
 
--- the ticket is that of the next entry, with the moves that the proxy hasn't had and those that take effect there
+-- The ticket is that of the next entry, with the moves that the proxy hasn't had and those that take effect there, and
+-- with a horizon that hasn't fallen.
 pub record IsNextTicket (config : Config) (book : List Entry) (known : Known) (ticket : Ticket) : Type 0 where
   pub index : ticket.index ≡ length book
   pub prev : ticket.prev ≡ last_version book
   pub later : last_version book < ticket.version
   pub moves : ticket.moves ≡ known.unlearnt ++ dated ticket.version ticket.pending
   pub targets : AllByRecursion (λ (move : Move). move.to < suc (length config.resolver_splits)) ticket.pending
+  pub horizon : last_horizon book ≤ ticket.horizon
+  pub below : ticket.horizon < ticket.version
 
 -- The first of those who wait became the batch of the ticket's entry, and the parts of it are given.
 pub record Seals (config : Config) (book : List Entry) (known : Known) (ticket : Ticket) (old : CommitProxyRole)

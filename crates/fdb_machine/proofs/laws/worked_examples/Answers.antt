@@ -8,13 +8,14 @@ use Rattle.fdb_machine.proofs.headline.FailureExamplesLemmas.{failed_roles_refus
 use Rattle.fdb_machine.proofs.headline.FailureExamplesLemmas.{readers_use_no_proxy, the_steps_own_role_fails}
 use Rattle.fdb_machine.proofs.headline.FailureExamplesLemmas.{who_answers_has_not_failed, failed_proxies_tell_nothing}
 use Rattle.fdb_machine.proofs.headline.MoveExamplesLemmas.{moves_take_effect_with_the_next_entry}
-use Rattle.fdb_machine.proofs.headline.MoveExamplesLemmas.{the_span_begins_at_the_window, the_later_move_counts}
+use Rattle.fdb_machine.proofs.headline.MoveExamplesLemmas.{the_span_begins_at_the_horizon, the_later_move_counts}
 use Rattle.fdb_machine.proofs.headline.AnswerExamplesLemmas.{other_versions_are_no_answers}
 use Rattle.fdb_machine.proofs.headline.AnswerExamplesLemmas.{other_verdicts_are_no_answers}
 use Rattle.fdb_machine.proofs.headline.AnswerExamplesLemmas.{early_decisions_are_no_answers}
 use Rattle.fdb_machine.proofs.headline.AnswerExamplesLemmas.{early_messages_are_no_answers}
 use Rattle.fdb_machine.proofs.headline.AnswerExamplesLemmas.{other_outcomes_are_no_answers, messages_are_due}
 use Rattle.fdb_machine.proofs.headline.ScriptExamplesLemmas.{worked_scripts_are_traces}
+use Rattle.fdb_machine.proofs.headline.WindowExamplesLemmas.{windows_are_read, windows_hold_from_the_next_entry}
 use Rattle.fdb_machine.proofs.laws.worked_examples.Goals as goal
 
 pub returns : goal.returns
@@ -34,7 +35,7 @@ returns c = record {
   proxies = read_at_two_proxies;
   progress = read_off_the_roles;
   moves = moves_take_effect_with_the_next_entry;
-  span = the_span_begins_at_the_window;
+  span = the_span_begins_at_the_horizon;
   overlap = the_later_move_counts;
   scripts = worked_scripts_are_traces;
   versions = other_versions_are_no_answers;
@@ -49,4 +50,6 @@ returns c = record {
   own = the_steps_own_role_fails;
   answered = who_answers_has_not_failed;
   in_flight = failed_proxies_tell_nothing;
+  windows = windows_hold_from_the_next_entry;
+  horizons = windows_are_read;
 }

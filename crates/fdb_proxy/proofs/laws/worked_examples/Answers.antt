@@ -45,3 +45,15 @@ returns-clause-grants c = λ client. (
   refl,
   refl,
 )
+
+pub returns-clause-spans : goal.returns-clause-spans
+unfolding point_lt
+returns-clause-spans c = (
+  refl,
+  refl,
+  refl,
+  refl,
+  refl,
+  refl,
+  refl,
+)

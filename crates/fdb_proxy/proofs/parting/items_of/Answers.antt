@@ -42,7 +42,7 @@ loop-place-preserved c =
           AllByRecursion (IsBelow (place + 1)) (items_at lists i)) (sym whole)
           (subst (λ (n : ℕ). AllByRecursion (IsBelow n) (items_at now i)) next (given i within).2);
       are = λ i within moves agrees.
-          let head = head_at version moves in
+          let head = head_at version c.args.horizon moves in
           subst (λ (lists : List (Vec Item Global)).
           AreItems splits head i 0 (take (place + 1) batch) (items_at lists i)) (sym whole)
           (subst (λ (all : List Transaction). AreItems splits head i 0 all (items_at now i)) (sym longer)

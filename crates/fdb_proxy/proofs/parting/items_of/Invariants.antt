@@ -13,5 +13,6 @@ invariant-loop-place l =
       count : length l.lists.items ≡ resolvers_of l.owners;
       below : (i : ℕ) → i < resolvers_of l.owners → AllByRecursion (IsBelow l.place) (items_at l.lists.items i);
       are : (i : ℕ) → i < resolvers_of l.owners → (moves : List Stamped) → AgreesWith l.owners moves
-          → AreItems l.owners.splits (head_at l.version moves) i 0 (take l.place l.batch) (items_at l.lists.items i);
+          → AreItems l.owners.splits (head_at l.version l.horizon moves) i 0 (take l.place l.batch)
+          (items_at l.lists.items i);
     }

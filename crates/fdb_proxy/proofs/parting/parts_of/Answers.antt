@@ -23,7 +23,9 @@ returns c moves agrees =
             index = with.index;
             version = with.version;
             prev = with.prev;
-            items = subst (AreItems splits (head_at c.args.position.version moves) i 0 batch) (sym with.items)
+            horizon = with.horizon;
+            items = subst (AreItems splits (head_at c.args.position.version c.args.position.horizon moves) i 0 batch)
+                (sym with.items)
                 (c.in_ok-lists.ensures.items.1 i within moves agrees);
           };
     }

@@ -31,6 +31,7 @@ loop-items-preserved c =
             index = refl;
             version = refl;
             prev = refl;
+            horizon = refl;
             items = c.in_ok-new.ensures.ok ∙ c.from_vec.ensures ∙ sym next.2;
           };
     }

@@ -13,7 +13,8 @@ loop-item-preserved c =
     ∙ ap (λ (item : Item). take c.loop-item.item-index c.args.items.now ++ item ∷ []) (sym c.item-item.is) in
     let said : c.push.new.self ≡ c.loop-item.answers ++ (c.item-item.result.place, c.in_ok-verdict.verdict) ∷ [] =
     search rules in
-    let judged = judged-push c.args.version (version_at c.args.versions.now) (version_at c.loop-item.versions)
+    let judged = judged-push c.args.version c.args.horizon (version_at c.args.versions.now)
+    (version_at c.loop-item.versions)
     (version_at c.judge_item.new.versions)
     (take c.loop-item.item-index c.args.items.now) (take (c.loop-item.item-index + 1) c.args.items.now)
     c.loop-item.answers c.push.new.self

@@ -7,7 +7,7 @@ use Rattle.fdb_resolver.proofs.judging.judge_items.Given as goal
 abbrev pub invariant-loop-item : goal.invariant-loop-item
 invariant-loop-item l =
     record {
-      verdicts : AreVerdicts l.version (version_at l.initial.versions) (take l.item-index l.items) l.answers;
+      verdicts : AreVerdicts l.version l.horizon (version_at l.initial.versions) (take l.item-index l.items) l.answers;
       versions : (x : Point)
           → version_at l.versions x ≡ versions_after l.version (version_at l.initial.versions)
           (take l.item-index l.items) l.answers x;

@@ -37,13 +37,13 @@ returns-clause-sessions c = (
 
 -- the two places of the entry, and the place of the far one
 abbrev first : Place
-first = placed (head_at 100 []) 0 (commit_request_of (reads_and_sets 0 None))
+first = placed (head_at 100 0 []) 0 (commit_request_of (reads_and_sets 0 None))
 
 abbrev second : Place
-second = placed (head_at 100 []) 1 (commit_request_of (reads_and_sets 1 None))
+second = placed (head_at 100 0 []) 1 (commit_request_of (reads_and_sets 1 None))
 
 abbrev late : Place
-late = placed (head_at 5000001 []) 0 (commit_request_of (reads_and_sets 1 None))
+late = placed (head_at 5000001 1 []) 0 (commit_request_of (reads_and_sets 1 None))
 
 -- there are no other places
 of-two : (entry place : ℕ) (there : Place × List Place) → place_at two_in_one_entry entry place ≡ Some there

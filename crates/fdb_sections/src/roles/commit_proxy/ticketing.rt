@@ -44,6 +44,7 @@ fn is_of_entry(ticket: &Ticket, number: usize, entry: &Entry, batch: &[Sealed]) 
     ticket.index as usize == number
         && ticket.version == entry.version
         && ticket.prev == entry.prev
+        && ticket.horizon == entry.horizon
         && entry.batch.as_slice() == batch
 }
 

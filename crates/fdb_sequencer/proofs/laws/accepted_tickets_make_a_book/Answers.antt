@@ -1,4 +1,5 @@
-use Rattle.fdb_sequencer.proofs.TicketLemmas.{indices_count_up, tickets_make_a_book, first_tickets_are_a_book}
+use Rattle.fdb_sequencer.proofs.TicketLemmas.{indices_count_up}
+use Rattle.fdb_sequencer.proofs.BookLemmas.{tickets_make_a_book, first_tickets_are_a_book}
 use Rattle.fdb_sequencer.proofs.laws.accepted_tickets_make_a_book.Goals as goal
 
 pub returns-clause-indices : goal.returns-clause-indices

@@ -25,6 +25,29 @@ returns-clause-tickets c = (
   refl,
 )
 
+pub returns-clause-windows : goal.returns-clause-windows
+returns-clause-windows c = (
+  refl,
+  refl,
+  refl,
+  refl,
+)
+
+pub returns-clause-horizons : goal.returns-clause-horizons
+returns-clause-horizons c = (
+  refl,
+  refl,
+  refl,
+  refl,
+  refl,
+  refl,
+  refl,
+  refl,
+  refl,
+  refl,
+  refl,
+)
+
 pub returns-clause-moves : goal.returns-clause-moves
 unfolding point_lt
 returns-clause-moves c = (

@@ -1,11 +1,11 @@
-use Rattle.std.proofs.Common.{◌∙◌, subst, ap, length, [], ◌∷◌, ◌++◌}
+use Rattle.std.proofs.Common.{◌∙◌, sym, subst, ap, length, List, [], ◌∷◌, ◌++◌, None, rules}
 use Rattle.fdb_txn.specs.declared.entry.Entry.{Entry}
 use Rattle.fdb_book.specs.Fronts.{IsLinkedBook}
-use Rattle.fdb_book.specs.Appending.{append_fault}
+use Rattle.fdb_book.specs.Appending.{append_fault, Found}
 use Rattle.fdb_book.specs.Ids.{Latest, Covers}
 use Rattle.fdb_book.proofs.FactLemmas.{counted-view}
 use Rattle.fdb_book.proofs.FoundLemmas.{front-next, room-left, match-none, match-some}
-use Rattle.fdb_book.proofs.FoundLemmas.{given-fits, given-has}
+use Rattle.fdb_book.proofs.FoundLemmas.{given-fits, given-has, taken-back}
 use Rattle.fdb_book.proofs.front.Front.set_next.Goals as goal
 
 pub fill_next-facts-requires : goal.fill_next-facts-requires
@@ -33,3 +33,13 @@ invariant_of-front g c =
     (append_fault (length g.B.BookName.cells) c.args.self.now c.in-Some.other.now)
     (λ latest. Covers latest (c.args.self.now ++ c.in-Some.other.now ∷ []))
     c.in-Ok-prepare.ensures.answers)
+
+pub returns : goal.returns
+returns g c =
+    let other = match-some _ _ _ _ c.in-Some.is c.fill_next-facts.ensures.entry in
+    let bare : List Entry → Found = λ (entries : List Entry). record { entries = entries; front = None } in
+    taken-back {T = Latest}
+    (length g.B.BookName.cells) c.args.self.now c.args.entry c.in-Some.other.now c.in-Err.field-0
+    (λ latest. Covers latest (c.args.self.now ++ c.in-Some.other.now ∷ [])) c.new-in-Err.result c.requires.fits
+    (λ same. other.1 (same ∙ sym c.in-Ok.ensures.1)) c.in-Err.ensures.answers (λ lacked. search (rules, lacked))
+    (c.new-in-Err.ensures ∙ ap bare other.0)

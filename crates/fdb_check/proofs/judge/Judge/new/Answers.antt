@@ -1,4 +1,4 @@
-use Rattle.std.proofs.Common.{refl}
+use Rattle.std.proofs.Common.{refl, arith}
 use Rattle.std.specs.Prelude.{⊤}
 use Rattle.fdb_txn.specs.Limits.{resolver_limit}
 use Rattle.fdb_txn.specs.rules.Splits.{splits_fault}
@@ -19,4 +19,5 @@ returns c =
       last = refl;
       owners = new_goes_on splits owners new;
       resolvers = λ i core there. new-resolver splits i core (c.in_ok-resolvers.ensures.each i core there);
+      floor = let none = new.floor in omega (arith, none);
     })

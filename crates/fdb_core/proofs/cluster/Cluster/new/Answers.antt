@@ -26,6 +26,7 @@ returns-clause-state c =
         entry_proxies = c.new-2.ensures.items i;
         decided = c.new-3.ensures.items i;
         pending = ap (λ (it : Sequencer). it.pending) judges.0 i;
+        window = ap (λ (it : Sequencer). it.window) judges.0 i;
         commit_proxies = seen-start config c.in_ok-commit_proxies.commit_proxies.items proxies.0 proxies.1 i;
         resolvers = taken_by-start config.resolver_splits c.in_ok-sequencer.resolvers.items judges.1
             judges.2 i;

@@ -146,6 +146,7 @@ returns c =
                 ∙ ap (λ (s : Sequencer). s.committed) c.take_report.ensures) i);
             next = record (machine_of (restored k c.requires)) {
               pending = (sym c.take_report.ensures i).pending;
+              window = (sym c.take_report.ensures i).window;
               committed = (sym c.take_report.ensures i).committed;
               commit_proxies = map seen_as (slice_set proxies c.args.proxy (sym reported i));
             };
@@ -163,6 +164,8 @@ returns c =
               count = before.sequencer.count;
               targets = before.sequencer.targets;
               made = before.sequencer.made;
+              horizon = before.sequencer.horizon;
+              window = before.sequencer.window;
             };
             book = before.book;
             parts = before.parts;

@@ -30,7 +30,7 @@ use Rattle.fdb_roles.proofs.Exports.{gives, map-at, map-set, read-there}
 use Rattle.fdb_core.proofs.refinement.BookPushes.{book-push, resolvers-push, parts-push, logs-push}
 use Rattle.fdb_core.proofs.refinement.commit_proxy.StateSealing.{learns, ticket-for}
 use Rattle.fdb_core.proofs.refinement.commit_proxy.Sealing.{ticket_for, next-ticket, reads-below, entry-is, proxy-is}
-use Rattle.fdb_core.proofs.refinement.commit_proxy.Sealing.{follows}
+use Rattle.fdb_core.proofs.refinement.commit_proxy.Sealing.{follows, rises}
 use Rattle.fdb_core.proofs.refinement.commit_proxy.Failing.{proxy-flags, proxy-tied, proxy-was}
 use Rattle.fdb_core.proofs.refinement.commit_proxy.Sealing.{parts-are, tied, sequencer-tied}
 use Rattle.fdb_core.proofs.refinement.commit_proxy.Unsealed.{room-left, seal-left}
@@ -127,7 +127,7 @@ seal-requires c =
     let before = (goal.at.seal-requires c).After-index_mut-commit_proxy in
     let role = c.index_mut-commit_proxy.result.now in
     ticket-for k.config k.book.items (known_to k.sequencer c.args.proxy) role (tie before) (idle before)
-    c.in_ok-ticket.ticket (next before) c.requires.refines.book.entries
+    c.in_ok-ticket.ticket (next before) c.requires.refines.book.entries c.requires.refines.book.horizons
     (reads-below (restored k c.requires) c.requires.refines c.args.proxy c.args.advance role (was before)
     c.in_ok-ticket.ticket (given before).1)
 
@@ -143,14 +143,14 @@ returns-in_err-batch c =
     lacked k (step.Seal c.args.proxy c.args.advance) c.from_residual-in_err-batch.result _ c.in_err-batch.field-0.0
     (search rules)
     (c.in_err-batch.ensures.answers k.config k.book.items known (tie before) (idle before) (next before)
-    c.requires.refines.book.entries)
+    c.requires.refines.book.entries c.requires.refines.book.horizons)
     (seal-left k c.make_room.new.book c.make_room.new.entry_proxies c.make_room.new.decided
     c.make_room.new.pooled c.make_room.new.messages room.book room.entry_proxies room.decided room.parts room.messages
     c.requires c.args.proxy c.args.advance role c.seal.new.self ticket (there before) (working before)
     (idle-seen k.config k.book.items known role (tie before) ∙ idle before)
     (c.in_err-batch.ensures.left
     (learns k.config k.book.items known role (tie before) (idle before) ticket (next before)
-    c.requires.refines.book.entries)))
+    c.requires.refines.book.entries c.requires.refines.book.horizons)))
 
 -- the batch is sealed
 pub returns : goal.returns
@@ -168,7 +168,7 @@ returns c =
     let for_it = (given before).1 in
     let is : Seals k.config k.book.items (known_to k.sequencer c.args.proxy) ticket role batch parts later =
     c.in_ok-batch.ensures.answers k.config k.book.items (known_to k.sequencer c.args.proxy) (tie before) (idle before)
-    (next before) old.book.entries in
+    (next before) old.book.entries old.book.horizons in
     let entry : Entry = entry_of ticket batch in
     let fits : length k.book.items < k.config.book = c.in_ok-ticket.ensures.room in
     -- what is pushed comes behind what there was before room was made
@@ -206,7 +206,8 @@ returns c =
           (sequencer-tied k old c.args.proxy c.args.advance role at ticket for_it batch parts later is);
       book = rw (book, proxies, flags, pool)
           (book-push k.book.items entry k.config k.entry_proxies.items k.decided.items k.messages.items c.args.proxy
-          old.book (follows k old c.args.proxy c.args.advance role at ticket for_it batch parts later is));
+          old.book (follows k old c.args.proxy c.args.advance role at ticket for_it batch parts later is)
+          (rises k old c.args.proxy c.args.advance role at ticket for_it));
       parts = rw (book, parted)
           (parts-push k.book.items entry k.config.resolver_splits k.parts.items parts old.parts
           (parts-are k old c.args.proxy c.args.advance role at ticket for_it batch parts later is));
@@ -228,6 +229,7 @@ returns c =
       entry_proxies = proxies i;
       decided = flags i;
       pending = ap (λ (s : Sequencer). s.pending) c.issue.ensures i;
+      window = ap (λ (s : Sequencer). s.window) c.issue.ensures i;
       commit_proxies = (map-set seen_as k.commit_proxies.items c.args.proxy later
           ∙ ap (slice_set (map seen_as k.commit_proxies.items) c.args.proxy)
           (proxy-is k old c.args.proxy c.args.advance role at ticket for_it batch parts later is)) i;

@@ -1,4 +1,8 @@
+use Rattle.std.proofs.Common.{arith}
 use Rattle.fdb_role_tests.proofs.proxies.committing.learns_with_parts.Goals as goal
 
 pub learn_with_parts-requires : goal.learn_with_parts-requires
-learn_with_parts-requires c = c.in_ok-ticket.ensures c.seal_four.new.core.proxy c.in_ok-seal_four.ensures
+learn_with_parts-requires c =
+    let none = c.requires.floor in
+    let same = c.in_ok-seal_four.ensures.floor in
+    c.in_ok-ticket.ensures c.seal_four.new.core.proxy c.in_ok-seal_four.ensures.batch (omega (arith, none, same))

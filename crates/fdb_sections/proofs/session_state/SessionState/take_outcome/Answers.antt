@@ -55,7 +55,8 @@ returns-in-Ok-told-clause-given g c =
     c.in-Ok-told.ensures.answers in
     let receipt =
     receipt-told splits front told transcript c.know_entries.ensures c.in-Ok.ensures.begins.1
-    c.in-Ok-told.ensures.told c.in-Ok.ensures.told c.know_book.ensures.ids own.number own.next_number opened gave.0 in
+    c.in-Ok-told.ensures.told c.in-Ok.ensures.told c.know_book.ensures.ids c.know_book.ensures.horizons
+    own.number own.next_number opened gave.0 in
     subst (λ (spot : Spot). IsReceipt splits (record { front = c.in-Ok.share; spot = spot; transcript = transcript }))
     (sym gave.1)
     (subst (λ (shared : List Entry).

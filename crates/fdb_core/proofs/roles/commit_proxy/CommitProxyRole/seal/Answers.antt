@@ -3,10 +3,10 @@ use Rattle.fdb_core.proofs.refinement.commit_proxy.StateSealing.{learns, seals-b
 use Rattle.fdb_core.proofs.roles.commit_proxy.CommitProxyRole.seal.Goals as goal
 
 pub returns-in-Ok-clause-answers : goal.returns-in-Ok-clause-answers
-returns-in-Ok-clause-answers c config book known ok idle next entries =
+returns-in-Ok-clause-answers c config book known ok idle next entries rise =
     let role = c.args.self.now in
     let all : c.into_vec-first.result.items ≡ role.waiting = c.into_vec-first.ensures ∙ c.replace.ensures.value in
-    seals-by config book known role ok idle c.args.ticket.now next entries _ c.in-Ok.batch c.in-Ok.parts
+    seals-by config book known role ok idle c.args.ticket.now next entries rise _ c.in-Ok.batch c.in-Ok.parts
     c.in-Ok.ensures.state (λ i. record role {
       state = c.seal_first.new.state;
       waiting = (c.from_vec.ensures ∙ c.in-Ok.ensures.rest ∙ ap (drop 4096) all) i;
@@ -15,6 +15,7 @@ returns-in-Ok-clause-answers c config book known ok idle next entries =
     })
 
 pub returns-in-Err-clause-answers : goal.returns-in-Err-clause-answers
-returns-in-Err-clause-answers c config book known ok idle next entries =
-    c.in-Err.ensures.lacks (seals-unrefused config book known c.args.self.now ok idle c.args.ticket.now next entries)
-    (learns config book known c.args.self.now ok idle c.args.ticket.now next entries)
+returns-in-Err-clause-answers c config book known ok idle next entries rise =
+    c.in-Err.ensures.lacks
+    (seals-unrefused config book known c.args.self.now ok idle c.args.ticket.now next entries rise)
+    (learns config book known c.args.self.now ok idle c.args.ticket.now next entries rise)

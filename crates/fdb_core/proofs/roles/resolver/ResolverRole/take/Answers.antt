@@ -10,9 +10,9 @@ use Rattle.fdb_core.proofs.refinement.resolver.Resolving.{lacks-memory-alone, ta
 use Rattle.fdb_core.proofs.roles.resolver.ResolverRole.take.Goals as goal
 
 pub returns-in_err-verdicts-clause-takes : goal.returns-in_err-verdicts-clause-takes
-returns-in_err-verdicts-clause-takes c splits before entry i index at entries of =
+returns-in_err-verdicts-clause-takes c splits before entry i index at entries risen of =
     let same : c.from_residual-in_err-verdicts.result ≡ Err c.in_err-verdicts.field-0.0 = search rules in
-    rw same (lacks-memory-alone splits before entry i index c.args.self.now at entries c.args.part.now of
+    rw same (lacks-memory-alone splits before entry i index c.args.self.now at entries risen c.args.part.now of
     (record c.args.self.now { state = c.take.new.self }) c.in_err-verdicts.field-0.0 c.in_err-verdicts.ensures.answers)
 
 -- where its state refuses, it took and sent nothing
@@ -28,9 +28,9 @@ returns-in_err-verdicts-clause-left c =
     })
 
 pub returns-clause-takes : goal.returns-clause-takes
-returns-clause-takes c splits before entry i index at entries of =
+returns-clause-takes c splits before entry i index at entries risen of =
     let same : c.from_vec.result ≡ c.in_ok-verdicts.verdicts.answers = search rules in
-    takes-next splits before entry i index c.args.self.now at entries c.args.part.now of c.take.new.self
+    takes-next splits before entry i index c.args.self.now at entries risen c.args.part.now of c.take.new.self
     c.in_ok-verdicts.verdicts c.from_vec.result
     (record { state = c.take.new.self; taken = c.args.self.now.taken + 1; sent = c.push_reserved.new.self })
     c.in_ok-verdicts.ensures.answers c.in_ok-verdicts.ensures.taken same refl refl

@@ -50,8 +50,8 @@ invariant_of-result g c =
     let own = takes-own state c.message.inside.part took.0 in
     subst (λ (front : List Entry). AreLastVerdicts splits
     (record { front = front; verdicts = c.in_ok-verdicts.verdicts })) (sym c.in_ok-sent.ensures)
-    (says splits _ c.message.invariant c.check_next.ensures.entries c.self.inside.front more state
-    (c.self.invariant.1 own.1) own.0 c.in_ok-verdicts.verdicts c.take.new.self took.1
+    (says splits _ c.message.invariant c.check_next.ensures.entries c.check_next.ensures.horizons
+    c.self.inside.front more state (c.self.invariant.1 own.1) own.0 c.in_ok-verdicts.verdicts c.take.new.self took.1
     c.in_ok-verdicts.ensures.taken c.self.invariant.0)
 
 pub invariant_of-self-2 : goal.invariant_of-self-2
@@ -64,6 +64,6 @@ invariant_of-self-2 g c =
     (IsAnswer state c.message.inside.part) c.in_ok-verdicts.ensures.answers in
     let own = takes-own state c.message.inside.part took.0 in
     subst (λ (front : List Entry). IsThere splits front c.take.new.self) (sym c.in_ok-front.ensures)
-    (is-there splits _ c.message.invariant c.check_next.ensures.entries c.self.inside.front more state
-    (c.self.invariant.1 own.1) own.0 c.in_ok-verdicts.verdicts c.take.new.self took.1
+    (is-there splits _ c.message.invariant c.check_next.ensures.entries c.check_next.ensures.horizons
+    c.self.inside.front more state (c.self.invariant.1 own.1) own.0 c.in_ok-verdicts.verdicts c.take.new.self took.1
     c.in_ok-verdicts.ensures.taken c.self.invariant.0)
