@@ -8,7 +8,7 @@ use Rattle.fdb_keys.specs.declared.refusal.Refusal.{Refusal}
 use Rattle.fdb_keys.specs.declared.refusal.Refusal.TheVariants.{NoMemory}
 use Rattle.fdb_txn.specs.declared.entry.Entry.{Entry}
 use Rattle.fdb_txn.specs.declared.entry.Move.{Move}
-use Rattle.fdb_txn.specs.book.Book.{Stamped, Seen, add_moves, head_of, seen_of}
+use Rattle.fdb_txn.specs.book.Book.{DatedMove, Seen, add_moves, head_of, seen_of}
 use Rattle.fdb_txn.proofs.Exports.{seen_of-push}
 use Rattle.fdb_owners.specs.Ownership.{Ownership, resolvers_of, learn_fault, HasLearnt}
 use Rattle.fdb_owners.specs.OwnersLaws.{AgreesWith}
@@ -90,7 +90,7 @@ module _ (splits : List Point) (before : List Entry) (entry : Entry)
 pub learns : {T : Type 0} (result : Result T Refusal) (old new : Ownership) (version : ℕ) (moves : List Move)
     → old.last < version
     → Answers result (learn_fault old version) (λ _. HasLearnt old version moves new)
-    → Answers result None (λ _. (older : List Stamped) → AgreesWith old older
+    → Answers result None (λ _. (older : List DatedMove) → AgreesWith old older
     → AgreesWith new (add_moves version moves older))
 learns (Ok done) old new version moves above answers = λ older agrees.
     learning_goes_on old new older version moves agrees
@@ -111,7 +111,7 @@ learns-known (Err why) old new version moves above answers same known = subst Ha
 -- A judge whose owners learnt the moves of the next entry, and whose resolvers took their parts of it.
 module _ (splits : List Point) (before : List Entry) (entry : Entry) (old : Judge) (owners : Ownership)
     (at : IsJudgeAt splits before old) (same : owners.splits ≡ old.owners.splits)
-    (learnt : (older : List Stamped) → AgreesWith old.owners older
+    (learnt : (older : List DatedMove) → AgreesWith old.owners older
     → AgreesWith owners (add_moves entry.version entry.moves older))
     (forgot : owners.floor ≤ entry.horizon) (follow : FollowOn (suc (length splits)) 0 0 (before ++ entry ∷ [])) where
   are : splits ≡ owners.splits

@@ -2,7 +2,7 @@
 use Rattle.std.specs.Prelude.{◌≡◌, ◌<◌, ◌≤◌, ℕ, List, length, slice_get, Option, Some, None}
 use Rattle.fdb_keys.specs.Points.{Point}
 use Rattle.fdb_txn.specs.declared.entry.Entry.{Entry}
-use Rattle.fdb_txn.specs.book.Book.{Stamped, seen_of, last_version, last_horizon}
+use Rattle.fdb_txn.specs.book.Book.{DatedMove, seen_of, last_version, last_horizon}
 use Rattle.fdb_owners.specs.Ownership.{Ownership, resolvers_of}
 use Rattle.fdb_owners.specs.OwnersLaws.{AgreesWith}
 use Rattle.fdb_resolver.specs.declared.part.Part.{Part}
@@ -20,7 +20,7 @@ pub record Judge : Type 0 where
 
 -- the owners are those of some moves
 abbrev pub HaveMoves : Ownership → Type 0
-HaveMoves owners = (moves : List Stamped) × AgreesWith owners moves
+HaveMoves owners = (moves : List DatedMove) × AgreesWith owners moves
 
 -- what holds of every judge
 pub record IsJudge (judge : Judge) : Type 0 where

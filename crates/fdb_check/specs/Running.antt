@@ -2,6 +2,7 @@
 use Rattle.std.specs.Prelude.{◌≡◌, ◌<◌, ◌≤◌, ◌⊎◌, ℕ, suc, false, List, [], ◌∷◌, take, length, Option, Some, None}
 use Rattle.std.specs.Prelude.{slice_get, nat_lt, if◌then◌else◌}
 use Rattle.fdb_keys.specs.Points.{Point}
+use Rattle.fdb_mutations.specs.declared.mutation.Mutation.{Mutation}
 use Rattle.fdb_mutations.specs.Maps.{Map}
 use Rattle.fdb_mutations.specs.Mutations.{effects}
 use Rattle.fdb_txn.specs.declared.entry.Entry.{Entry}
@@ -9,13 +10,21 @@ use Rattle.fdb_txn.specs.book.Transactions.{Transaction}
 use Rattle.fdb_txn.specs.book.Book.{Seen, seen_before}
 use Rattle.fdb_txn.specs.rules.Messages.{mutations_in}
 use Rattle.fdb_txn.specs.rules.SerialMap.{serial_map}
+use Rattle.fdb_txn.specs.rules.Stamped.{stamped_by}
 use Rattle.fdb_proxy.specs.declared.outcome.Outcome.{Outcome}
+use Rattle.fdb_proxy.specs.declared.outcome.Outcome.TheVariants as outcome
 use Rattle.fdb_roles.specs.declared.placed.Placed.{Placed}
 use Rattle.fdb_roles.specs.Bodies.{body_by}
 use Rattle.fdb_check.specs.Judged.{outcomes_of, AreJudged, JudgedBook}
 use Rattle.fdb_check.specs.Spots.{moment_of, comes_before}
 use Rattle.fdb_check.specs.declared.run.Run.{Run}
 use Rattle.fdb_check.specs.declared.visits.Visit.{Visit}
+
+-- the mutations of a transaction by what becomes of it, with the stamp of its commit
+abbrev pub runs : Outcome → Transaction → List Mutation
+runs (outcome.Commit version place) t = stamped_by version place t.mutations
+runs outcome.Conflict t = []
+runs outcome.Old t = []
 
 -- the map after the first places of a batch
 abbrev pub map_after : Map → List Transaction → List Outcome → ℕ → Map

@@ -1,10 +1,10 @@
 // The rule over all resolvers, entry by entry.
-ghost use Rattle.std.specs.Prelude.{◌≡◌, ◌<◌, ◌≤◌, ◌++◌, length, List, [], ◌∷◌, None, IfOk};
-ghost use Rattle.std.specs.Prelude.{IfErr, All};
+ghost use Rattle.std.specs.Prelude.{◌≡◌, ◌<◌, ◌≤◌, ◌++◌, min, length, List, [], ◌∷◌, None};
+ghost use Rattle.std.specs.Prelude.{IfOk, IfErr, All};
 ghost use Rattle.fdb_keys.specs.Answers.{Answers};
 ghost use Rattle.fdb_keys.specs.declared.refusal.Refusal.TheVariants.{NoMemory};
 ghost use Rattle.fdb_txn.specs.declared.entry.Entry.{Entry};
-ghost use Rattle.fdb_txn.specs.book.Book.{Stamped, seen_of, add_moves};
+ghost use Rattle.fdb_txn.specs.book.Book.{DatedMove, seen_of, add_moves};
 ghost use Rattle.fdb_owners.specs.Ownership.{resolvers_of};
 ghost use Rattle.fdb_owners.specs.OwnersLaws.{AgreesWith};
 ghost use Rattle.fdb_resolver.specs.Parts.{IsPart};
@@ -112,7 +112,7 @@ fn new_cores(alloc: Global, count: u32) -> Result<Vec<ResolverCore>, AllocError>
 fn learn_some(owners: &mut Owners, version: u64, moves: &[Move]) -> Result<(), Refusal>
     requires later { owners.old.last < version }
     requires targets { All (λ move. move.to < resolvers_of owners.old) moves.now }
-    ensures answers { Answers result None (λ _. (older : List Stamped) → AgreesWith owners.old older
+    ensures answers { Answers result None (λ _. (older : List DatedMove) → AgreesWith owners.old older
         → AgreesWith owners.new (add_moves version moves.now older)) }
     ensures known { HaveMoves owners.old → HaveMoves owners.new }
     ensures splits { owners.new.splits ≡ owners.old.splits }
@@ -130,7 +130,7 @@ fn learn(owners: &mut Owners, entry: &Entry) -> Result<(), Refusal>
     requires later { owners.old.last < entry.now.version }
     requires targets { All (λ move. move.to < resolvers_of owners.old) entry.now.moves }
     requires kept { owners.old.floor ≤ entry.now.horizon }
-    ensures answers { Answers result None (λ _. (older : List Stamped) → AgreesWith owners.old older
+    ensures answers { Answers result None (λ _. (older : List DatedMove) → AgreesWith owners.old older
         → AgreesWith owners.new (add_moves entry.now.version entry.now.moves older)) }
     ensures known { HaveMoves owners.old → HaveMoves owners.new }
     ensures splits { owners.new.splits ≡ owners.old.splits }
@@ -173,10 +173,8 @@ fn judge_entry(
     requires count { length resolvers.old.items ≡ resolvers_of owners.now }
     requires known { HaveMoves owners.now }
     requires later { entry.now.prev < entry.now.version }
-    requires reads { All (λ t. t.read < entry.now.version) entry.now.batch }
     requires learnt { owners.now.last ≤ entry.now.version }
-    requires kept { owners.now.floor ≤ entry.now.horizon }
-    requires below { entry.now.horizon < entry.now.version }
+    requires kept { owners.now.floor ≤ min entry.now.horizon entry.now.version }
     ensures count { IfOk result (λ outcomes. length outcomes ≡ length entry.now.batch) }
     ensures resolvers { length resolvers.new.items ≡ length resolvers.old.items }
     ensures outcomes { (before : List Entry) → AgreesWith owners.now (moves_through (seen_of before) entry.now)

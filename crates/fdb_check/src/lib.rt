@@ -8,6 +8,7 @@ mod fault;
 mod judge;
 mod judged;
 mod judged_book;
+pub mod laws;
 mod run;
 mod serial;
 mod serial_run;

@@ -1,20 +1,21 @@
 // The run of the book's committed transactions, one at a time.
 ghost use Rattle.std.specs.Prelude.{◌≡◌, ◌<◌, ◌≤◌, suc, List, [], length, None, Some, slice_get, IfErr};
-ghost use Rattle.std.specs.Prelude.{OnOk, if◌then◌else◌};
+ghost use Rattle.std.specs.Prelude.{OnOk};
 ghost use Rattle.fdb_keys.specs.Answers.{Answers};
 ghost use Rattle.fdb_keys.specs.Points.{Point};
 ghost use Rattle.fdb_mutations.specs.Maps.{Map};
 ghost use Rattle.fdb_mutations.specs.Mutations.{effects};
 ghost use Rattle.fdb_txn.specs.declared.entry.Entry.{Entry};
 ghost use Rattle.fdb_txn.specs.book.History.{AreEntries};
+ghost use Rattle.fdb_txn.specs.rules.Stamped.{stamped_by};
 ghost use Rattle.fdb_proxy.specs.Logging.{is_commit};
 ghost use Rattle.fdb_proxy.specs.declared.outcome.Outcome.{Outcome};
 ghost use Rattle.fdb_check.specs.Judged.{AreJudged};
-ghost use Rattle.fdb_check.specs.Running.{map_after, batch_of, IsRunAt, IsNotPast, HasComeTo};
+ghost use Rattle.fdb_check.specs.Running.{runs, map_after, batch_of, IsRunAt, IsNotPast, HasComeTo};
 
 use crate::fault::CheckFault;
 use fdb_keys::{Items, Refusal};
-use fdb_mutations::{Mutation, PlainMap};
+use fdb_mutations::{Mutation, PlainMap, Stamp};
 use fdb_proxy::Outcome;
 use fdb_txn::{Entry, Sealed};
 use std::alloc::Global;
@@ -62,25 +63,36 @@ pub(crate) fn commits(outcomes: &[Outcome], place: usize) -> bool
     matches!(outcomes.get(place), Some(Outcome::Commit { .. }))
 }
 
-// Applies the mutations to the map, the first one first.
-fn apply(map: &mut PlainMap, mutations: &[Mutation]) -> Result<(), Refusal>
-    ensures { Answers result None (λ _. map.new ≡ effects map.old mutations.now) }
+// What becomes of the place. Where that isn't known, it is as if it conflicted.
+fn outcome_of(outcomes: &[Outcome], place: usize) -> Outcome
+    ensures { (outcome : Outcome) → slice_get outcomes.now place ≡ Some outcome → result ≡ outcome }
+{
+    match outcomes.get(place) {
+        Some(outcome) => *outcome,
+        None => Outcome::Conflict,
+    }
+}
+
+// Applies the mutations with the stamp, the first one first.
+fn apply(map: &mut PlainMap, mutations: &[Mutation], stamp: Stamp) -> Result<(), Refusal>
+    ensures { Answers result None
+        (λ _. map.new ≡ effects map.old (stamped_by stamp.version stamp.place mutations.now)) }
 {
     for mutation in mutations {
-        map.apply(mutation)?;
+        map.apply_stamped(mutation, stamp)?;
     }
     Ok(())
 }
 
-// Runs the transaction if it commits.
-fn run_place(map: &mut PlainMap, txn: &Sealed, commits: bool) -> Result<(), CheckFault>
-    ensures ok { OnOk result (map.new ≡ effects map.old (if commits then txn.now.mutations else [])) }
+// Runs the transaction, with the stamp of its commit, if it commits.
+fn run_place(map: &mut PlainMap, txn: &Sealed, outcome: Outcome) -> Result<(), CheckFault>
+    ensures ok { OnOk result (map.new ≡ effects map.old (runs outcome txn.now)) }
     ensures err { IfErr result (λ fault. fault ≡ CheckFault.NoMemory) }
 {
-    if !commits {
+    let Outcome::Commit { version, place } = outcome else {
         return Ok(());
-    }
-    match apply(map, txn.mutations()) {
+    };
+    match apply(map, txn.mutations(), Stamp::of_place(version, place)) {
         Ok(()) => Ok(()),
         Err(_) => Err(CheckFault::NoMemory),
     }
@@ -101,7 +113,7 @@ fn run_places(
     ensures err { IfErr result (λ fault. fault ≡ CheckFault.NoMemory) }
 {
     for place in from..until {
-        run_place(map, &batch[place], commits(outcomes, place))?;
+        run_place(map, &batch[place], outcome_of(outcomes, place))?;
     }
     Ok(())
 }

@@ -17,7 +17,7 @@ use Rattle.fdb_client.specs.Programs.{copy}
 use Rattle.fdb_client.specs.ReadExamples.{replied, clears, adds}
 
 -- what stands at a point after a program, since nothing can be computed with a map
-abbrev there : List Op → Point → Option (List ℕ)
+abbrev pub there : List Op → Point → Option (List ℕ)
 there [] x = value_at three_pairs x
 there (Get key snapshot ∷ earlier) x = there earlier x
 there (operation.Range range limit is_reverse snapshot ∷ earlier) x = there earlier x
@@ -25,7 +25,7 @@ there (Write mutation ∷ earlier) x = value_after x (there earlier x) mutation
 there (AddRead range ∷ earlier) x = there earlier x
 there (AddWrite range ∷ earlier) x = there earlier x
 
-get-copy : (ops : List Op) (x : Point) → get (copy three ops) x ≡ there ops x
+pub get-copy : (ops : List Op) (x : Point) → get (copy three ops) x ≡ there ops x
 get-copy [] x = get-pairs three_pairs x
 get-copy (Get key snapshot ∷ earlier) x = get-copy earlier x
 get-copy (operation.Range range limit is_reverse snapshot ∷ earlier) x = get-copy earlier x

@@ -1,6 +1,6 @@
 -- What is kept for a point, after something was put under a key.
 use Rattle.std.proofs.Common.{◌≡◌, ◌∙◌, sym, ap, refl, ℕ, Bool, true, false, cond, if◌then◌else◌, List, Option, Some}
-use Rattle.std.proofs.Common.{None, [], Result, Ok, Err, ⊎_elim}
+use Rattle.std.proofs.Common.{None, [], ◌∷◌, ◌++◌, not, ◌&&◌, Result, Ok, Err, ⊎_elim}
 use Rattle.std.specs.Ordering.{nat_cmp}
 use Rattle.std.specs.Cmp.{eq_by_cmp_equiv}
 use Rattle.std.specs.Cmp.Lexicographic.{slice_cmp, bytes_decides}
@@ -17,9 +17,10 @@ use Rattle.fdb_keys.specs.Ranges.{Range, in_set}
 use Rattle.fdb_keys.specs.Texts.{is_key}
 use Rattle.fdb_mutations.specs.declared.mutation.Mutation.{Mutation}
 use Rattle.fdb_mutations.specs.Mutations.{is_blind, new_value}
+use Rattle.fdb_mutations.specs.Stamping.{is_stamped}
 use Rattle.fdb_mutations.proofs.Exports.{blind_is_blind}
 use Rattle.fdb_client.specs.declared.left.Left.{Left}
-use Rattle.fdb_client.specs.declared.left.Left.TheVariants.{Value, Changes}
+use Rattle.fdb_client.specs.declared.left.Left.TheVariants.{Value, Unreadable, Changes}
 use Rattle.fdb_client.specs.OwnWrites.{kept_of, kept_at, left_after}
 
 -- what is under a point
@@ -97,9 +98,25 @@ first-change entries cleared key mutation absent =
 
 -- what a blind mutation leaves doesn't depend on what was left
 pub blind-after : (left : Left) (mutation : Mutation) → is_blind mutation ≡ true
-    → Value (new_value mutation None) ≡ left_after left mutation
-blind-after (Value value) mutation blind = ap Value (blind_is_blind mutation blind None value)
-blind-after (Changes mutations) mutation blind = sym (cond-true _ _ _ blind)
+    → (if is_stamped mutation then Unreadable (new_value mutation None) else Value (new_value mutation None))
+    ≡ left_after left mutation
+blind-after (Value value) mutation blind =
+    ap (λ (made : Option (List ℕ)). if is_stamped mutation then Unreadable made else Value made)
+    (blind_is_blind mutation blind None value)
+blind-after (Unreadable value) mutation blind =
+    ap (λ (made : Option (List ℕ)). if is_stamped mutation then Unreadable made else Value made)
+    (blind_is_blind mutation blind None value)
+    ∙ turned (is_stamped mutation) (new_value mutation value)
+    ∙ ap (λ (is : Bool). if is && not (is_stamped mutation) then Value (new_value mutation value)
+    else Unreadable (new_value mutation value)) (sym blind)
+  where
+    turned : (waits : Bool) (made : Option (List ℕ))
+        → (if waits then Unreadable made else Value made) ≡ (if not waits then Value made else Unreadable made)
+    turned true made = refl
+    turned false made = refl
+blind-after (Changes mutations) mutation blind =
+    ap (λ (other : Left). if is_stamped mutation then Unreadable (new_value mutation None) else other)
+    (sym (cond-true _ (Value (new_value mutation None)) (Changes (mutations ++ mutation ∷ [])) blind))
 
 -- it holds of a call whether it is refused or not
 pub on_err : {T E : Type 0} (result : Result T E) (P : Type 0) → P → OnErr result P

@@ -17,4 +17,7 @@ mod ReadExamplesLemmas
 mod ReadSetLemmas
 mod RequestLemmas
 mod UndecidedLemmas
+mod UnreadableExamplesLemmas
+mod UnreadableLaws
+mod UnreadableLemmas
 mod WriteSetLemmas

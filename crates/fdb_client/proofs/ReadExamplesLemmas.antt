@@ -24,7 +24,7 @@ use Rattle.fdb_client.specs.Programs.{copy, add_scanned}
 use Rattle.fdb_client.specs.ReadExamples.{WorkedRangeReads, reading, replied, read_by, sets, clears, adds}
 
 -- ---- the pairs that writes leave, since nothing can be computed with the entries of a map
-entries_of_three : entries three ≡ three_pairs
+pub entries_of_three : entries three ≡ three_pairs
 unfolding IsStrictlySortedBy
 entries_of_three = entries-sorted three_pairs ((refl, (refl, tt)), ((refl, tt), (tt, tt)))
 
@@ -49,7 +49,7 @@ with_added =
     ∙ ap (put (slice_cmp nat_cmp) (one 2) (one 7)) entries_of_three
 
 -- ---- a read after these writes, by the pairs that they leave
-abbrev given_by : List (Point × List ℕ) → Range → ℕ → Bool → List (Point × List ℕ)
+abbrev pub given_by : List (Point × List ℕ) → Range → ℕ → Bool → List (Point × List ℕ)
 given_by pairs range limit is_reverse =
     first_of limit (if is_reverse then reverse (pairs_within range pairs) else pairs_within range pairs)
 

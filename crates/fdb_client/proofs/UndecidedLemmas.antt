@@ -10,7 +10,7 @@ use Rattle.fdb_keys.specs.Ranges.{Range, in_range, in_set}
 use Rattle.fdb_keys.proofs.Exports.{behind-inside, below_next, in_range_from, in_range_parts, le_chain, lt-itself}
 use Rattle.fdb_keys.proofs.Exports.{lt_chain, lt_one_way, not_behind-itself}
 use Rattle.fdb_client.specs.declared.left.Left.{Left}
-use Rattle.fdb_client.specs.declared.left.Left.TheVariants.{Value, Changes}
+use Rattle.fdb_client.specs.declared.left.Left.TheVariants.{Value, Unreadable, Changes}
 use Rattle.fdb_client.specs.declared.own_writes.OwnWrites.{OwnWrites}
 use Rattle.fdb_client.specs.LeftAt.{entry_of, left_at}
 use Rattle.fdb_client.specs.Merging.{IsPartOf}
@@ -69,6 +69,7 @@ module _ (own : OwnWrites) (x : Point) where
 
           held : (left : Left) → in_range (part_by range entry.0 left) x ≡ in_range range x
           held (Value value) = ap (λ (until : Bool). not (point_lt x range.begin) && until) (before ∙ sym sooner)
+          held (Unreadable value) = ap (λ (until : Bool). not (point_lt x range.begin) && until) (before ∙ sym sooner)
           held (Changes mutations) = ap (λ (until : Bool). not (point_lt x range.begin) && until)
               (below_next entry.0 x ∙ ap not (lt_one_way x entry.0 before) ∙ sym sooner)
 
@@ -84,6 +85,7 @@ module _ (own : OwnWrites) (x : Point) where
         where
           ends : (left : Left) → point_lt x (part_by range entry.0 left).end ≡ false
           ends (Value value) = lt_one_way entry.0 x after
+          ends (Unreadable value) = lt_one_way entry.0 x after
           ends (Changes mutations) = below_next entry.0 x ∙ ap not after
 
       -- and the key is in the part where its entry doesn't decide it
@@ -99,6 +101,7 @@ module _ (own : OwnWrites) (x : Point) where
         where
           held : (left : Left) → in_range (part_by range entry.0 left) entry.0 ≡ not (is_value left)
           held (Value value) = not_behind-itself range true entry.0
+          held (Unreadable value) = not_behind-itself range true entry.0
           held (Changes mutations) = in_range_from (range_through range false entry.0) entry.0
               (in_range_parts range entry.0 are.0).0 (below_next entry.0 entry.0 ∙ ap not (lt-itself entry.0))
 

@@ -1,5 +1,5 @@
 -- What a transaction keeps of its own writes.
-use Rattle.std.specs.Prelude.{◌≡◌, true, Option, None, is_some}
+use Rattle.std.specs.Prelude.{◌≡◌, ◌&&◌, true, Option, None, is_some}
 use Rattle.std.specs.Ordering.{nat_cmp}
 use Rattle.std.specs.Cmp.Lexicographic.{slice_cmp}
 use Rattle.std.specs.BTreeMap.{is_at}
@@ -9,7 +9,7 @@ use Rattle.fdb_keys.specs.Ranges.{Range, in_range, in_set}
 use Rattle.fdb_keys.specs.Texts.{is_key}
 use Rattle.fdb_client.specs.declared.left.Left.{Left}
 use Rattle.fdb_client.specs.declared.own_writes.OwnWrites.{OwnWrites}
-use Rattle.fdb_client.specs.OwnWrites.{kept_at, is_value}
+use Rattle.fdb_client.specs.OwnWrites.{kept_at, is_unreadable, is_value}
 
 -- what is kept under a key of its own
 abbrev pub entry_of : OwnWrites → Point → Option Left
@@ -30,3 +30,7 @@ AreClearedDecided own = (x : Point) → in_set own.cleared x ≡ true → is_val
 -- no point of the range has an entry
 abbrev pub HasNoEntry : OwnWrites → Range → Type 0
 HasNoEntry own range = (x : Point) → in_range range x ≡ true → entry_of own x ≡ None
+
+-- some point of the range is unreadable
+abbrev pub HasUnreadable : OwnWrites → Range → Type 0
+HasUnreadable own range = (x : Point) × ((in_range range x && is_unreadable (left_at own x)) ≡ true)

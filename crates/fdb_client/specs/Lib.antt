@@ -11,3 +11,5 @@ pub mod ProgramLaws
 pub mod Programs
 pub mod ReadExamples
 pub mod WriteExamples
+pub mod Unreadable
+pub mod UnreadableExamples

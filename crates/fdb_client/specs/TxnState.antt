@@ -1,5 +1,5 @@
 -- How what a transaction keeps is tied to its operations.
-use Rattle.std.specs.Prelude.{◌≡◌, ◌==◌, Bool, not, List, [], ◌∷◌, ◌++◌, length, None}
+use Rattle.std.specs.Prelude.{◌≡◌, ◌==◌, Bool, false, not, List, [], ◌∷◌, ◌++◌, length, None}
 use Rattle.std.specs.List.{AllByRecursion}
 use Rattle.fdb_keys.specs.Points.{Point}
 use Rattle.fdb_keys.specs.Ranges.{Range}
@@ -15,6 +15,7 @@ use Rattle.fdb_client.specs.LeftAt.{left_at, AreClearedDecided, HasLegalKeys}
 use Rattle.fdb_client.specs.OwnWrites.{left_by_ops, left_by}
 use Rattle.fdb_client.specs.Programs.{program, replies_of, add_writes, add_mutation, read_ranges, write_ranges}
 use Rattle.fdb_client.specs.Programs.{mutations_of}
+use Rattle.fdb_client.specs.Unreadable.{add_stamped, stamped_keys}
 
 -- the transcript with one operation more, and the reply to it
 abbrev pub with_op : Transcript → Op → Reply → Transcript
@@ -26,6 +27,7 @@ WritesNothing op =
     ((x : Point) (left : Left) → left_by x left op ≡ left)
     × ((ranges : List Range) → add_writes op ranges ≡ ranges)
     × ((mutations : List Mutation) → add_mutation op mutations ≡ mutations)
+    × ((keys : List Point) → add_stamped op keys ≡ keys)
 
 -- what is kept of a program's writes: what they leave at each point, under legal keys alone and decided where a range
 -- was cleared, and the write set
@@ -35,13 +37,15 @@ pub record AreWritesOf (ops : List Op) (own : OwnWrites) (writes : List Range) :
   pub cleared_decided : AreClearedDecided own
   pub are_written : writes ≡ write_ranges ops
 
--- what is kept of the operations: what is kept of their writes, the read set, and whether they have a mutation; each of
--- these is a legal one
-pub record AreOf (ops : List (Op × Reply)) (own : OwnWrites) (reads writes : List Range) (mutates : Bool) : Type 0 where
+-- what is kept of the operations: what is kept of their writes, the read set, whether they have a mutation, and whether
+-- they have a Stamped; each mutation is a legal one
+pub record AreOf (ops : List (Op × Reply)) (own : OwnWrites) (reads writes : List Range) (mutates stamps : Bool)
+    : Type 0 where
   pub written : AreWritesOf (program ops) own writes
   pub are_read : reads ≡ read_ranges (program ops) (replies_of ops)
   pub unless_mutates : not mutates ≡ (length (mutations_of (program ops)) == 0)
+  pub unless_stamps : stamps ≡ false → stamped_keys (program ops) ≡ []
   pub legal : AllByRecursion (λ (mutation : Mutation). mutation_fault mutation ≡ None) (mutations_of (program ops))
 
 abbrev pub AreKept : TxnState → Type 0
-AreKept state = AreOf state.transcript.ops state.own state.reads state.writes state.mutates
+AreKept state = AreOf state.transcript.ops state.own state.reads state.writes state.mutates state.stamps

@@ -1,4 +1,8 @@
 // What a transaction's own writes leave at a key.
+ghost use Rattle.std.specs.Prelude.{◌≡◌, None, OnErr};
+ghost use Rattle.fdb_keys.specs.Answers.{Answers};
+ghost use Rattle.fdb_mutations.specs.Mutations.{new_value};
+
 use bytes::Bytes;
 use fdb_keys::{Items, Refusal};
 use fdb_mutations::Mutation;
@@ -8,6 +12,9 @@ use std::alloc::{AllocError, Global};
 pub(crate) enum Left {
     // A value, or none, whatever stood there.
     Value(Option<Bytes>),
+    // The bare operand of a Stamped, and what later mutations that aren't blind made of it. The transaction can't read
+    // it, since the stamp is known only once it commits.
+    Unreadable(Option<Bytes>),
     // What the mutations make of what stands there. None of them decides the key.
     Changes(Items<Mutation>),
 }
@@ -15,9 +22,23 @@ pub(crate) enum Left {
 impl Left {
     ghost use Rattle.std.specs.Prelude.{◌≡◌, [], ◌∷◌, false, None, IfOk, OnErr, if◌then◌else◌};
     ghost use Rattle.fdb_keys.specs.Answers.{Answers};
-    ghost use Rattle.fdb_mutations.specs.Mutations.{is_blind};
+    ghost use Rattle.fdb_mutations.specs.Mutations.{is_blind, new_value};
+    ghost use Rattle.fdb_mutations.specs.Stamping.{is_stamped};
     ghost use Rattle.fdb_client.specs.OwnWrites.{left_after};
-    ghost use Rattle.fdb_client.specs.declared.left.Left.TheVariants.{Value, Changes};
+    ghost use Rattle.fdb_client.specs.declared.left.Left.TheVariants.{Value, Unreadable, Changes};
+
+    // What a blind mutation leaves at a key that it names.
+    pub(crate) fn blind(alloc: Global, mutation: &Mutation) -> Result<Self, Refusal>
+        ensures { Answers result None (λ left. left ≡ (if is_stamped mutation.now
+            then Unreadable (new_value mutation.now None) else Value (new_value mutation.now None))) }
+    {
+        let value = mutation.apply_value(alloc, None)?;
+        if mutation.is_stamped() {
+            Ok(Left::Unreadable(value))
+        } else {
+            Ok(Left::Value(value))
+        }
+    }
 
     // What a first mutation leaves at its key, which was cleared with a range before it or wasn't. The mutation isn't
     // blind.
@@ -55,13 +76,25 @@ impl Left {
         ensures err { OnErr result (self.new ≡ self.old) }
     {
         match self {
-            Left::Value(value) => {
-                *value = mutation.apply_value(alloc, value.as_ref())?;
-            }
+            Left::Value(value) => change_value(alloc, value, mutation),
+            Left::Unreadable(value) => change_value(alloc, value, mutation),
             Left::Changes(mutations) => {
                 mutations.push(mutation.clone()?)?;
+                Ok(())
             }
         }
-        Ok(())
     }
+}
+
+// What the mutation makes of a value. Where memory runs out, nothing changes.
+fn change_value(
+    alloc: Global,
+    value: &mut Option<Bytes>,
+    mutation: &Mutation,
+) -> Result<(), Refusal>
+    ensures ok { Answers result None (λ _. value.new ≡ new_value mutation.now value.old) }
+    ensures err { OnErr result (value.new ≡ value.old) }
+{
+    *value = mutation.apply_value(alloc, value.as_ref())?;
+    Ok(())
 }

@@ -1,12 +1,12 @@
 // What a transaction's own writes leave at each key, and which keys they decide.
-ghost use Rattle.std.specs.Prelude.{◌≡◌, ◌&&◌, ◌||◌, ◌∷◌, ◌++◌, None, IfOk, OnOk, OnErr, IsTrue};
+ghost use Rattle.std.specs.Prelude.{◌≡◌, ◌↔◌, ◌&&◌, ◌||◌, ◌∷◌, ◌++◌, None, IfOk, OnOk, OnErr, IsTrue};
 ghost use Rattle.std.specs.Prelude.{if◌then◌else◌, not, true, false, []};
 ghost use Rattle.fdb_keys.specs.Answers.{Answers};
 ghost use Rattle.fdb_keys.specs.Cutting.{range_behind};
 ghost use Rattle.fdb_keys.specs.Points.{Point, point_eq};
 ghost use Rattle.fdb_keys.specs.Ranges.{in_range, in_set, is_apart};
 ghost use Rattle.fdb_keys.specs.Texts.{is_key};
-ghost use Rattle.fdb_client.specs.OwnWrites.{left_after, as_left, is_value, part_by};
+ghost use Rattle.fdb_client.specs.OwnWrites.{left_after, as_left, is_unreadable, is_value, part_by};
 ghost use Rattle.fdb_client.specs.declared.left.Left.TheVariants.{Changes};
 
 use crate::left::Left;
@@ -27,6 +27,7 @@ pub(crate) struct OwnWrites {
 // What is left at a key, lent.
 pub(crate) enum LentLeft<'a> {
     Value(Option<&'a Bytes>),
+    Unreadable(Option<&'a Bytes>),
     Changes(&'a [Mutation]),
 }
 
@@ -36,8 +37,17 @@ pub(crate) fn lent(left: &Left) -> LentLeft<'_>
     match left {
         Left::Value(Some(value)) => LentLeft::Value(Some(value)),
         Left::Value(None) => LentLeft::Value(None),
+        Left::Unreadable(Some(value)) => LentLeft::Unreadable(Some(value)),
+        Left::Unreadable(None) => LentLeft::Unreadable(None),
         Left::Changes(mutations) => LentLeft::Changes(mutations.as_slice()),
     }
+}
+
+// Whether the transaction can't read what is left.
+fn is_unreadable(left: &Left) -> bool
+    ensures { result ≡ is_unreadable left.now }
+{
+    matches!(left, Left::Unreadable(_))
 }
 
 // What of the range the entry of the key doesn't decide, of all that comes before the key and of the key itself.
@@ -46,7 +56,7 @@ fn part_by(alloc: Global, range: &KeyRange, key: &Key, entry: &Left) -> Result<K
     ensures { Answers result None (λ part. part ≡ part_by range.now key.now entry.now) }
 {
     match entry {
-        Left::Value(_) => range.behind(alloc, true, key),
+        Left::Value(_) | Left::Unreadable(_) => range.behind(alloc, true, key),
         Left::Changes(_) => range.through(alloc, false, key),
     }
 }
@@ -71,7 +81,7 @@ fn cut_off(
 }
 
 impl OwnWrites {
-    ghost use Rattle.fdb_client.specs.LeftAt.{left_at, entry_of, AreClearedDecided, HasLegalKeys};
+    ghost use Rattle.fdb_client.specs.LeftAt.{left_at, entry_of, AreClearedDecided, HasLegalKeys, HasUnreadable};
     ghost use Rattle.fdb_client.specs.OwnWrites.{keys_between};
     ghost use Rattle.std.specs.List.{list_any};
 
@@ -113,7 +123,7 @@ impl OwnWrites {
         ensures { result ≡ is_value (left_at self.now key.now) }
     {
         match self.left_at(key) {
-            LentLeft::Value(_) => true,
+            LentLeft::Value(_) | LentLeft::Unreadable(_) => true,
             LentLeft::Changes(_) => false,
         }
     }
@@ -147,8 +157,8 @@ impl OwnWrites {
         ensures err { OnErr result ((x : Point) → left_at self.new x ≡ left_at self.old x) }
     {
         if mutation.is_blind() {
-            let value = mutation.apply_value(alloc, None)?;
-            return self.put(key, Left::Value(value));
+            let made = Left::blind(alloc, mutation)?;
+            return self.put(key, made);
         }
         if let Some(left) = self.keys.get_mut(key.text()) {
             left.change(alloc, mutation)?;
@@ -221,6 +231,19 @@ impl OwnWrites {
         }
         parts.push(left)?;
         Ok(())
+    }
+
+    // Whether the transaction can't read some key of the range. It goes once over the entries of the range: with n of
+    // them it takes O(log m + n) comparisons of keys, where there are m entries.
+    pub(crate) fn is_unreadable_in(&self, range: &KeyRange) -> bool
+        ensures { IsTrue result ↔ HasUnreadable self.now range.now }
+    {
+        for (_text, entry) in self.keys.range(range.begin_text()..range.end_text()) {
+            if is_unreadable(entry) {
+                return true;
+            }
+        }
+        false
     }
 
     // Takes away the entries of the keys. It takes no memory.

@@ -33,8 +33,8 @@ impl Model for Txn {
 
 impl Txn {
     ghost use Rattle.std.specs.Prelude.{◌≡◌, ◌<◌, true, [], None, Err, IfOk, IfErr, IsOk, IsErr, OnErr, sum_by};
-    ghost use Rattle.std.specs.Prelude.{if◌then◌else◌};
     ghost use Rattle.std.specs.FinMap.{get};
+    ghost use Rattle.std.specs.Option.{option_or};
     ghost use Rattle.fdb_keys.specs.Answers.{Answers, AnswersOrHandsBack};
     ghost use Rattle.fdb_keys.specs.Points.{Point};
     ghost use Rattle.fdb_keys.specs.Ranges.{in_set};
@@ -48,6 +48,7 @@ impl Txn {
     ghost use Rattle.fdb_client.specs.ProgramLaws.{IsExecuted};
     ghost use Rattle.fdb_client.specs.Programs.{program, replies_of, copy, decided, read_set, write_set, read_ranges};
     ghost use Rattle.fdb_client.specs.Programs.{mutations_of, write_ranges, is_read_only};
+    ghost use Rattle.fdb_client.specs.Unreadable.{get_fault, scan_fault, unless_out};
     ghost use Rattle.fdb_client.specs.declared.program.Op.TheVariants as operation;
     ghost use Rattle.fdb_client.specs.declared.program.Reply.TheVariants as answer;
 
@@ -64,6 +65,10 @@ impl Txn {
     /// decide the key, as a set or a clear does, the snapshot isn't asked, and else it refuses as the snapshot does. An
     /// ordinary read, which is no snapshot read, of a key that isn't decided adds the key to the read set. Where it is
     /// refused, nothing is noted.
+    ///
+    /// Refused as `AccessedUnreadable`, before the snapshot is asked, where the key is unreadable: its value has a
+    /// stamp, since the last of the transaction's sets, clears and stamped mutations that names it is a `Stamped`. A
+    /// snapshot read is refused so too.
     pub fn get<S: Snapshot>(
         &mut self,
         snapshot: &S,
@@ -72,7 +77,7 @@ impl Txn {
     ) -> Result<Option<Bytes>, Refusal>
         requires { S.at snapshot.now ≡ self.old.read_version }
         ensures answers { Answers result
-            (if decided (program self.old.ops) key.now then None else S.key_fault snapshot.now key.now)
+            (get_fault (program self.old.ops) key.now (S.key_fault snapshot.now key.now))
             (λ value. value ≡ get (copy (S.map snapshot.now) (program self.old.ops)) key.now) }
         ensures ok { IfOk result
             (λ value. self.new ≡ with_op self.old (operation.Get key.now is_snapshot) (answer.Value value)) }
@@ -87,8 +92,13 @@ impl Txn {
     /// what it scanned and the own writes don't decide; it scanned the whole range, or, where it gave as many pairs as
     /// the limit allows, the range up to the last one's key, which is in it. Where it is refused, nothing is noted.
     ///
+    /// Refused as `AccessedUnreadable` where it scanned a key that is unreadable, as `get` says, unless memory ran out
+    /// before that was known: such a key counts as a pair, and a read that would give it is refused. The snapshot's
+    /// refusals come first.
+    ///
     /// It takes the snapshot's pages, and goes once over these and the own writes of what it scans: for n pairs and own
-    /// writes there it takes O(n log m) comparisons of keys, where the transaction holds m keys and ranges.
+    /// writes there it takes O(n log m) comparisons of keys, where the transaction holds m keys and ranges. Where a
+    /// `Stamped` was written, it goes over those own writes once more.
     pub fn get_range<S: Snapshot>(
         &mut self,
         snapshot: &S,
@@ -98,7 +108,9 @@ impl Txn {
         is_snapshot: bool,
     ) -> Result<Items<(Key, Bytes)>, Refusal>
         requires { S.at snapshot.now ≡ self.old.read_version }
-        ensures answers { Answers result (S.range_fault snapshot.now range.now)
+        ensures answers { Answers result (option_or (S.range_fault snapshot.now range.now) (unless_out result
+            (scan_fault (copy (S.map snapshot.now) (program self.old.ops)) (program self.old.ops) range.now limit
+            reverse)))
             (λ pairs. pairs ≡ given_of (copy (S.map snapshot.now) (program self.old.ops)) range.now limit reverse) }
         ensures ok { IfOk result (λ pairs. self.new
             ≡ with_op self.old (operation.Range range.now limit reverse is_snapshot) (answer.Pairs pairs)) }
@@ -108,8 +120,9 @@ impl Txn {
             .get_range(snapshot, range, limit, reverse, is_snapshot)
     }
 
-    /// Buffers a mutation, whose key or range joins the write set. Refused as `ValueTooLarge` and as `BadOperand` where
-    /// `check` refuses it; then nothing changes.
+    /// Buffers a mutation, whose key or range joins the write set. A `Stamped` makes its key unreadable, until a set or
+    /// a clear names the key. Refused as `ValueTooLarge` and as `BadOperand` where `check` refuses it; then nothing
+    /// changes.
     pub fn write(&mut self, mutation: Mutation) -> Result<(), Refusal>
         ensures answers { Answers result (mutation_fault mutation)
             (λ _. self.new ≡ with_op self.old (operation.Write mutation) answer.Done) }

@@ -1,18 +1,20 @@
 // What a transaction keeps, and how each operation changes it.
-ghost use Rattle.std.specs.Prelude.{◌≡◌, ◌<◌, true, not, ◌&&◌, [], ◌∷◌, ◌++◌, None, Err, IfOk, IfErr, IsOk, IsErr};
-ghost use Rattle.std.specs.Prelude.{OnOk, OnErr, sum_by, if◌then◌else◌};
+ghost use Rattle.std.specs.Prelude.{◌≡◌, ◌<◌, ⊤, true, not, ◌&&◌, [], ◌∷◌, ◌++◌, Some, None, Err, IfOk, IfErr};
+ghost use Rattle.std.specs.Prelude.{IsOk, IsErr, OnOk, OnErr, sum_by, if◌then◌else◌};
 ghost use Rattle.std.specs.FinMap.{get};
-ghost use Rattle.std.specs.Option.{option_copied};
+ghost use Rattle.std.specs.Option.{option_copied, option_or};
 ghost use Rattle.fdb_keys.specs.Answers.{Answers, AnswersOrHandsBack};
 ghost use Rattle.fdb_keys.specs.Insertion.{with_range, with_ranges};
 ghost use Rattle.fdb_keys.specs.Ranges.{single_range};
 ghost use Rattle.fdb_keys.specs.Removal.{outside};
-ghost use Rattle.fdb_keys.specs.declared.refusal.Refusal.TheVariants.{TransactionTooLarge};
+ghost use Rattle.fdb_keys.specs.declared.refusal.Refusal.TheVariants.{AccessedUnreadable, TransactionTooLarge};
 ghost use Rattle.fdb_mutations.specs.Maps.{Map};
 ghost use Rattle.fdb_mutations.specs.Mutations.{mutation_fault, mutation_size};
 ghost use Rattle.fdb_mutations.specs.PairLaws.{given_of};
+ghost use Rattle.fdb_mutations.specs.Pairs.{scanned};
 ghost use Rattle.fdb_client.specs.Programs.{program, copy, decided, decided_ranges, add_reads, is_read_only};
 ghost use Rattle.fdb_client.specs.Programs.{mutations_of};
+ghost use Rattle.fdb_client.specs.Unreadable.{get_fault, scan_fault, unless_out, unreadable_in};
 ghost use Rattle.fdb_txn.specs.Limits.{size_limit};
 ghost use Rattle.fdb_client.specs.Finishing.{finish_fault, AsksFor, IsFinished};
 ghost use Rattle.fdb_client.specs.declared.program.Op.TheVariants as operation;
@@ -24,7 +26,7 @@ use crate::finished::Finished;
 use crate::own_writes::OwnWrites;
 use crate::program::{Op, Reply, Transcript};
 use crate::range_read::pairs_of;
-use crate::reading::{pairs_copy, scanned_part, value_of};
+use crate::reading::{pairs_copy, readable_value_of, scanned_part};
 use crate::sealing::{check_written, sealed_of};
 use crate::snapshot::Snapshot;
 use bytes::Bytes;
@@ -47,6 +49,8 @@ pub(crate) struct TxnState {
     pub(crate) writes: ConflictSet,
     // Whether there is a mutation among its operations.
     pub(crate) mutates: bool,
+    // Whether there is a `Stamped` among its operations. Where there is none, each key can be read.
+    pub(crate) stamps: bool,
 }
 
 impl TxnState {
@@ -68,6 +72,7 @@ impl TxnState {
             reads: ConflictSet::new(alloc),
             writes: ConflictSet::new(alloc),
             mutates: false,
+            stamps: false,
         }
     }
 
@@ -176,15 +181,15 @@ impl TxnState {
         self.note_key(answered_get(key, is_snapshot, value)?, key)
     }
 
-    // What stands at the key after its own writes, and whether they decide the key.
+    // What stands at the key after its own writes, and whether they decide the key. Refused where it can't be read.
     fn read<S: Snapshot>(&self, snapshot: &S, key: &Key) -> Result<(Option<Bytes>, bool), Refusal>
         requires { AreKept self.now }
         ensures value { Answers result
-            (if decided (program self.now.transcript.ops) key.now then None else S.key_fault snapshot.now key.now)
+            (get_fault (program self.now.transcript.ops) key.now (S.key_fault snapshot.now key.now))
             (λ read. read.0 ≡ get (copy (S.map snapshot.now) (program self.now.transcript.ops)) key.now) }
         ensures decided { IfOk result (λ read. read.1 ≡ decided (program self.now.transcript.ops) key.now) }
     {
-        value_of(self.alloc, &self.own, snapshot, key)
+        readable_value_of(self.alloc, &self.own, snapshot, key)
     }
 
     // Reads the key after its own writes, and notes that. Where it is refused, nothing changes.
@@ -196,7 +201,7 @@ impl TxnState {
     ) -> Result<Option<Bytes>, Refusal>
         requires { AreKept self.old }
         ensures answers { Answers result
-            (if decided (program self.old.transcript.ops) key.now then None else S.key_fault snapshot.now key.now)
+            (get_fault (program self.old.transcript.ops) key.now (S.key_fault snapshot.now key.now))
             (λ value. value ≡ get (copy (S.map snapshot.now) (program self.old.transcript.ops)) key.now) }
         ensures ok { IfOk result (λ value. self.new.transcript
             ≡ with_op self.old.transcript (operation.Get key.now is_snapshot) (answer.Value value)) }
@@ -215,6 +220,30 @@ impl TxnState {
             (λ undecided. undecided ≡ outside (decided_ranges (program self.now.transcript.ops)) range.now) }
     {
         self.own.undecided_in(self.alloc, range)
+    }
+
+    // Whether no key of what a read of the range scanned, by the pairs that it was given, is unreadable. Without a
+    // `Stamped` it takes no memory, and O(1) time.
+    fn check_readable(
+        &self,
+        range: &KeyRange,
+        limit: u32,
+        reverse: bool,
+        pairs: &[(Key, Bytes)],
+    ) -> Result<(), Refusal>
+        requires kept { AreKept self.now }
+        requires given { (map : Map) × (pairs.now ≡ given_of map range.now limit reverse) }
+        ensures { Answers result (unless_out result (if unreadable_in (program self.now.transcript.ops)
+            (scanned range.now limit reverse pairs.now) then Some AccessedUnreadable else None)) (λ _. ⊤) }
+    {
+        if !self.stamps {
+            return Ok(());
+        }
+        let part = scanned_part(self.alloc, range, limit, reverse, pairs)?;
+        if self.own.is_unreadable_in(&part) {
+            return Err(Refusal::AccessedUnreadable);
+        }
+        Ok(())
     }
 
     // Notes what the range was read as. Where memory runs out, nothing changes.
@@ -254,7 +283,9 @@ impl TxnState {
         is_snapshot: bool,
     ) -> Result<Items<(Key, Bytes)>, Refusal>
         requires { AreKept self.old }
-        ensures answers { Answers result (S.range_fault snapshot.now range.now) (λ pairs. pairs
+        ensures answers { Answers result (option_or (S.range_fault snapshot.now range.now) (unless_out result
+            (scan_fault (copy (S.map snapshot.now) (program self.old.transcript.ops))
+            (program self.old.transcript.ops) range.now limit reverse))) (λ pairs. pairs
             ≡ given_of (copy (S.map snapshot.now) (program self.old.transcript.ops)) range.now limit reverse) }
         ensures ok { IfOk result (λ pairs. self.new.transcript ≡ with_op self.old.transcript
             (operation.Range range.now limit reverse is_snapshot) (answer.Pairs pairs)) }
@@ -262,6 +293,7 @@ impl TxnState {
         ensures kept { OnOk result (AreKept self.new) }
     {
         let pairs = pairs_of(self.alloc, &self.own, snapshot, range, limit, reverse)?;
+        self.check_readable(range, limit, reverse, pairs.as_slice())?;
         self.note_range(range, limit, reverse, is_snapshot, &pairs)?;
         Ok(pairs)
     }
@@ -315,6 +347,7 @@ impl TxnState {
             return Err(why);
         }
         self.mutates = true;
+        self.stamps = self.stamps || mutation.is_stamped();
         Ok(())
     }
 

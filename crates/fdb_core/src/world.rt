@@ -76,6 +76,10 @@ impl World {
     /// failed besides, the commit proxy that seals (and then no entry was added), the resolver or the log that takes an
     /// entry, or the shard that pulls. No other step has a role fail, and all other roles go on.
     ///
+    /// A read is refused as `AccessedUnreadable` where what it would give is known only once the transaction commits,
+    /// since its own `Stamped` wrote it: a get asks no shard then, and a read of a range is first refused as its shards
+    /// refuse it. A refused read is none of the transaction's operations.
+    ///
     /// Where the world stands for a trace, it then stands for that trace with this step and its answer. Each
     /// transaction that the trace acknowledged is serialized at its spot: it is committed there, and each of its
     /// ordinary reads was answered as when the committed transactions run one at a time from the empty map, by

@@ -1,5 +1,5 @@
 -- The run of transactions at some places of a book, one at a time.
-use Rattle.std.specs.Prelude.{◌≡◌, ◌==◌, ◌&&◌, ◌||◌, Bool, true, nat_lt, List, [], ◌∷◌, length}
+use Rattle.std.specs.Prelude.{◌≡◌, ◌==◌, ◌&&◌, ◌||◌, ℕ, Bool, true, nat_lt, List, [], ◌∷◌, length}
 use Rattle.std.specs.Prelude.{Option, Some, None, option_and_then, is_some}
 use Rattle.std.specs.List.{slice_get, list_all, flat_map, AllAdjacentBelow}
 use Rattle.std.specs.FinMap.{empty}
@@ -10,6 +10,7 @@ use Rattle.fdb_mutations.specs.declared.mutation.Mutation.{Mutation}
 use Rattle.fdb_txn.specs.book.Transactions.{Transaction}
 use Rattle.fdb_txn.specs.declared.entry.Entry.{Entry}
 use Rattle.fdb_txn.specs.declared.spot.Spot.{Spot}
+use Rattle.fdb_txn.specs.rules.Stamped.{stamped_by}
 use Rattle.fdb_txn.specs.declared.spot.Spot.TheVariants as spot
 use Rattle.fdb_roles.specs.declared.placed.Placed.{Placed}
 use Rattle.fdb_load.specs.declared.run.Place.{Place}
@@ -22,11 +23,19 @@ abbrev pub mutations_of : Option Transaction → List Mutation
 mutations_of None = []
 mutations_of (Some txn) = txn.mutations
 
+-- what the transaction at a place writes, if there is one: its mutations, with the stamp of its entry's version and its
+-- place
+abbrev pub written_in : ℕ → Option Entry → List Mutation
+written_in p None = []
+written_in p (Some entry) = stamped_by entry.version p (mutations_of (slice_get entry.batch p))
+
+abbrev pub written_at : List Entry → Place → List Mutation
+written_at entries place = written_in place.place (slice_get entries place.index)
+
 -- the map after the transactions at these places
 abbrev pub run_from : Map → List Entry → List Place → Map
 run_from map entries [] = map
-run_from map entries (place ∷ places) =
-    run_from (effects map (mutations_of (txn_at entries place))) entries places
+run_from map entries (place ∷ places) = run_from (effects map (written_at entries place)) entries places
 
 -- the same of the empty map
 abbrev pub run_of : List Entry → List Place → Map

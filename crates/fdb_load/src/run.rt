@@ -1,17 +1,19 @@
 // The run of committed transactions, one at a time, over a plain map.
-ghost use Rattle.std.specs.Prelude.{◌≡◌, ◌↔◌, ◌++◌, IsTrue, None, false, OnOk, IfErr};
+ghost use Rattle.std.specs.Prelude.{◌≡◌, ◌↔◌, ◌++◌, IsTrue, None, Some, false, OnOk, IfErr, map as mapped};
 ghost use Rattle.std.specs.Bool.{Decides};
 ghost use Rattle.std.specs.Option.{option_copied};
 ghost use Rattle.fdb_keys.specs.Answers.{Answers};
 ghost use Rattle.fdb_keys.specs.declared.refusal.Refusal.TheVariants.{NoMemory};
 ghost use Rattle.fdb_mutations.specs.Mutations.{effects};
 ghost use Rattle.fdb_mutations.specs.Pairs.{pairs_in};
-ghost use Rattle.fdb_load.specs.Runs.{txn_at, mutations_of, run_from, run_of, have_places, every_key};
+ghost use Rattle.fdb_mutations.specs.Stamping.{stamped};
+ghost use Rattle.fdb_mutations.specs.Stamps.{stamp_bytes};
+ghost use Rattle.fdb_load.specs.Runs.{txn_at, written_in, written_at, run_from, run_of, have_places, every_key};
 ghost use Rattle.fdb_load.specs.Runs.{AreRising, is_before, receipt_places, spot_places};
 
 use bytes::Bytes;
 use fdb_keys::{Key, KeyRange, Refusal};
-use fdb_mutations::{Mutation, PlainMap};
+use fdb_mutations::{Mutation, PlainMap, Stamp};
 use fdb_roles::Placed;
 use fdb_runtime::{Spot, TxnId};
 use fdb_txn::{Entry, Sealed};
@@ -129,7 +131,38 @@ fn run_all(map: &mut PlainMap, entries: &[Entry], places: &[Place]) -> Result<()
     ensures { Answers result None (λ _. map.new ≡ run_from map.old entries.now places.now) }
 {
     for place in places {
-        run(map, mutations_at(entries, *place))?;
+        run_place(map, entries, *place)?;
+    }
+    Ok(())
+}
+
+// Runs the transaction at the place, if there is one.
+fn run_place(map: &mut PlainMap, entries: &[Entry], place: Place) -> Result<(), Refusal>
+    ensures { Answers result None (λ _. map.new ≡ effects map.old (written_at entries.now place)) }
+{
+    match entries.get(place.index as usize) {
+        Some(entry) => run_in(map, entry, place.place),
+        None => Ok(()),
+    }
+}
+
+// Runs the transaction at that place of the entry, if there is one.
+fn run_in(map: &mut PlainMap, entry: &Entry, place: u32) -> Result<(), Refusal>
+    ensures { Answers result None (λ _. map.new ≡ effects map.old (written_in place (Some entry.now))) }
+{
+    match entry.batch.as_slice().get(place as usize) {
+        Some(txn) => run(map, txn.mutations(), Stamp::of_place(entry.version, place)),
+        None => Ok(()),
+    }
+}
+
+// Runs the mutations with the stamp.
+fn run(map: &mut PlainMap, mutations: &[Mutation], stamp: Stamp) -> Result<(), Refusal>
+    ensures { Answers result None (λ _. map.new
+        ≡ effects map.old (mapped (stamped (stamp_bytes stamp.version stamp.place)) mutations.now)) }
+{
+    for mutation in mutations {
+        map.apply_stamped(mutation, stamp)?;
     }
     Ok(())
 }
@@ -140,23 +173,4 @@ fn txn_at(entries: &[Entry], place: Place) -> Option<&Sealed>
 {
     let entry = entries.get(place.index as usize)?;
     entry.batch.as_slice().get(place.place as usize)
-}
-
-// Its mutations.
-fn mutations_at(entries: &[Entry], place: Place) -> &[Mutation]
-    ensures { result.now ≡ mutations_of (txn_at entries.now place) }
-{
-    match txn_at(entries, place) {
-        Some(txn) => txn.mutations(),
-        None => &[],
-    }
-}
-
-fn run(map: &mut PlainMap, mutations: &[Mutation]) -> Result<(), Refusal>
-    ensures { Answers result None (λ _. map.new ≡ effects map.old mutations.now) }
-{
-    for mutation in mutations {
-        map.apply(mutation)?;
-    }
-    Ok(())
 }

@@ -12,4 +12,5 @@ pub mod RunsLemmas
 pub mod ScriptExamplesLemmas
 pub mod ScriptLemmas
 pub mod TraceLaws
+pub mod UnreadableExamplesLemmas
 pub mod WindowExamplesLemmas

@@ -9,3 +9,4 @@ pub mod SessionLemmas
 pub mod SessionMaps
 pub mod Steps
 pub mod Transitions
+pub mod UnreadableLemmas

@@ -17,4 +17,5 @@ pub mod ScriptExamples
 pub mod Serving
 pub mod Sessions
 pub mod Traces
+pub mod UnreadableExamples
 pub mod WindowExamples

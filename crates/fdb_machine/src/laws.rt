@@ -27,11 +27,13 @@ ghost use Rattle.fdb_machine.specs.headline.HeadlineExamples.{OnlyTheCommittedAr
 ghost use Rattle.fdb_machine.specs.headline.Promises.{RefusalsChangeNothing, GrantsCommitted};
 ghost use Rattle.fdb_machine.specs.headline.Promises.{CommittedIsGreatestReported, GetsFromTheRun, GetsRefused};
 ghost use Rattle.fdb_machine.specs.headline.Promises.{RangeReadsFromTheRun, RangeReadsRefused, AcknowledgedAreLogged};
+ghost use Rattle.fdb_machine.specs.headline.Promises.{UnreadableKeysAskNoShard};
 ghost use Rattle.fdb_machine.specs.headline.ReadingExamples.{EachOperationIsNoted, ReadAtTwoProxies, ReadOffTheRoles};
 ghost use Rattle.fdb_machine.specs.headline.RealTime.{RealTime};
 ghost use Rattle.fdb_machine.specs.headline.ScriptExamples.{WorkedScriptsAreTraces};
 ghost use Rattle.fdb_machine.specs.headline.Sessions.{SessionsAreWhereTheirStatesSay, AsksAreRefused};
 ghost use Rattle.fdb_machine.specs.headline.Traces.{TracesDetermineTheMachine, WorldsShowWhatIsTold};
+ghost use Rattle.fdb_machine.specs.headline.UnreadableExamples.{PlaceholdersAreNoAnswers, UnreadableReadsAreRefused};
 ghost use Rattle.fdb_machine.specs.headline.WindowExamples.{WindowsHoldFromTheNextEntry, WindowsAreRead};
 ghost use Rattle.fdb_roles.specs.RoleExamples.{AnEmptyShardDoesNotServe};
 
@@ -68,17 +70,21 @@ pub fn accepted_steps_are_answered_by_what_the_trace_told_before()
 
 /// A read of an open transaction is refused as `FutureVersion` exactly where its own operations don't decide the key
 /// and the shard that holds the key still serves the read version but hasn't reached it, and as `TransactionTooOld`
-/// exactly where they don't and that shard no longer serves it. A key that they decide is answered.
+/// exactly where they don't and that shard no longer serves it. It is refused as `AccessedUnreadable` exactly where the
+/// last of its own operations that decides the key is a `Stamped`, and asks no shard then, whichever has failed. Any
+/// other key that they decide is answered.
 pub fn gets_are_refused_exactly_where_the_shard_does_not_serve()
-    ensures { GetsRefused }
+    ensures refused { GetsRefused }
+    ensures unreadable { UnreadableKeysAskNoShard }
 {}
 
 /// A read of a range in an open transaction is refused as `TransactionTooOld` exactly where some point of the range is
 /// held by a shard that no longer serves the read version. Where there is a shard for each piece between the splits, as
 /// in every world, it is refused as `FutureVersion` exactly where no point is held by one of those, and some point is
-/// held by a shard that still serves the version but hasn't reached it. It is answered exactly where each point of the
-/// range is held by a shard that serves the version, so where the range has no point too. The range is looked at whole,
-/// whatever the limit.
+/// held by a shard that still serves the version but hasn't reached it. The shards are asked for the range whole,
+/// whatever the limit. Where each point is held by a shard that serves the version, it is refused as
+/// `AccessedUnreadable` exactly where some point of what it scans is unreadable, and else answered, so where the range
+/// has no point too. What it scans ends with the last pair that it gives, if the limit ends it.
 pub fn range_reads_are_refused_exactly_where_a_shard_of_the_range_does_not_serve()
     ensures { RangeReadsRefused }
 {}
@@ -123,7 +129,7 @@ pub fn steps_of_roles_are_accepted_where_they_are_due()
 /// a trace has, what a shard of two pulls, forgets and pops and at which versions it answers from the run, who is asked
 /// where keys go over from one resolver to another, which steps are refused where a role has failed, which roles may
 /// fail in a step in which memory runs out, that a role which answers hasn't failed, what a commit proxy tells of
-/// its batch, and from which entry on a window that is set holds.
+/// its batch, from which entry on a window that is set holds, and which reads of a stamped key are refused.
 pub fn worked_examples()
     ensures spots { OnlyTheFirstIsSerialized }
     ensures read_only { ReadOnlyAtItsVersion }
@@ -157,6 +163,8 @@ pub fn worked_examples()
     ensures in_flight { FailedProxiesTellNothing }
     ensures windows { WindowsHoldFromTheNextEntry }
     ensures horizons { WindowsAreRead }
+    ensures unreadable { UnreadableReadsAreRefused }
+    ensures placeholders { PlaceholdersAreNoAnswers }
 {}
 
 /// Over every trace the entries are a book: their versions rise, and each previous version is that of the entry before;

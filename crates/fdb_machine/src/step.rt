@@ -17,14 +17,16 @@ pub enum AnyStep<K, R, M> {
     Grant {
         proxy: u32,
     },
-    /// The session's transaction reads a key. A snapshot read adds nothing to the read set.
+    /// The session's transaction reads a key. A snapshot read adds nothing to the read set. Refused as
+    /// `AccessedUnreadable` where its own `Stamped` is the last mutation that decides the key; no shard is asked then.
     Get {
         session: u32,
         key: K,
         snapshot: bool,
     },
     /// The session's transaction reads the first pairs of a range, or the last ones from its end: at most `limit` of
-    /// them, or all where it is 0. A snapshot read adds nothing to the read set.
+    /// them, or all where it is 0. A snapshot read adds nothing to the read set. Refused as `AccessedUnreadable` where
+    /// no shard refuses it, and a key of what it scans is one that `Get` would refuse so.
     GetRange {
         session: u32,
         range: R,
@@ -32,7 +34,8 @@ pub enum AnyStep<K, R, M> {
         reverse: bool,
         snapshot: bool,
     },
-    /// The session's transaction buffers a mutation.
+    /// The session's transaction buffers a mutation. A `Stamped` makes its key unreadable for the transaction itself
+    /// until a later set or clear names it.
     Write {
         session: u32,
         mutation: M,

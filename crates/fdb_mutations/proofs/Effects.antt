@@ -13,7 +13,7 @@ use Rattle.fdb_keys.specs.Ranges.{Range, in_range, single_range, ranges_meet}
 use Rattle.fdb_keys.specs.Clipping.{common_range, clipped_range}
 use Rattle.fdb_keys.proofs.Exports.{HaveCommonPoint, common_from_meet, meet_from_common, in_range-single, in_common}
 use Rattle.fdb_mutations.specs.declared.mutation.Mutation.{Mutation}
-use Rattle.fdb_mutations.specs.declared.mutation.Mutation.TheVariants.{Set, Clear, ClearRange}
+use Rattle.fdb_mutations.specs.declared.mutation.Mutation.TheVariants.{Set, Clear, ClearRange, Stamped}
 use Rattle.fdb_mutations.specs.Maps.{Map}
 use Rattle.fdb_mutations.specs.Naming.{NamedKeys, OneKey, KeysIn, is_named, range_of}
 use Rattle.fdb_mutations.specs.Mutations.{EffectAtEveryPoint, BlindIsBlind, RangesAreCleared, effect, effect_of, named}
@@ -65,6 +65,7 @@ pub blind_is_blind : BlindIsBlind
 blind_is_blind (Set key value) blind a b = refl
 blind_is_blind (Clear key) blind a b = refl
 blind_is_blind (ClearRange range) blind a b = refl
+blind_is_blind (Stamped key operand offset) blind a b = refl
 blind_is_blind mutation blind a b = absurd (both_ways false refl blind)
 
 -- what is named is the points of its range

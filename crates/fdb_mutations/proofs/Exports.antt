@@ -10,3 +10,4 @@ pub use Rattle.fdb_mutations.proofs.OrderedLemmas.{filter_none, ordered-filter, 
 pub use Rattle.fdb_mutations.proofs.PairsLemmas.{all_in-pairs_in, comes_before, find-within, no_values}
 pub use Rattle.fdb_mutations.proofs.PairsLemmas.{ordered-pairs_in, pairs_from_a_key_on, pairs_in-part, same_values}
 pub use Rattle.fdb_mutations.proofs.ScannedLemmas.{decides_what_is_given}
+pub use Rattle.fdb_mutations.proofs.StampLemmas.{stamps_are_final, stamps_keep_names}

@@ -7,4 +7,5 @@ mod NumbersLemmas
 mod OrderedLemmas
 mod PairsLemmas
 mod ScannedLemmas
+mod StampLemmas
 mod TakenLemmas

@@ -72,7 +72,7 @@ from_le_bytes-number_of bytes short =
     ∙ number_of-append bytes zeros (number_of-none_dropped (length bytes) (replicate 16 0) refl)
 
 -- ---- the lowest bytes of a number
-byte_at-div : (i number : ℕ) → byte_at i number ≡ number / 256 ^ i % 256
+pub byte_at-div : (i number : ℕ) → byte_at i number ≡ number / 256 ^ i % 256
 byte_at-div zero number = ap (λ (n : ℕ). n % 256) (sym (div-one number))
 byte_at-div (suc i) number = refl
 

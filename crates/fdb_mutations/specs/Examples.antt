@@ -3,7 +3,7 @@ use Rattle.std.specs.Prelude.{◌≡◌, ℕ, true, false, List, [], ◌∷◌, 
 use Rattle.fdb_keys.specs.Ranges.{Range}
 use Rattle.fdb_keys.specs.declared.refusal.Refusal.TheVariants.{BadOperand}
 use Rattle.fdb_mutations.specs.declared.mutation.Mutation.TheVariants.{Set, Clear, ClearRange, Add, And, Or, Xor, Max}
-use Rattle.fdb_mutations.specs.declared.mutation.Mutation.TheVariants.{Min, ByteMin, ByteMax, CompareAndClear}
+use Rattle.fdb_mutations.specs.declared.mutation.Mutation.TheVariants.{Min, ByteMin, ByteMax, CompareAndClear, Stamped}
 use Rattle.fdb_mutations.specs.Maps.{Map}
 use Rattle.fdb_mutations.specs.Mutations.{carried, new_value, is_blind, mutation_fault, mutation_size, clipped_mutation}
 use Rattle.fdb_mutations.specs.Mutations.{effect, effect_of}
@@ -53,6 +53,7 @@ WorkedExamples =
     × (mutation_fault (Add key []) ≡ Some BadOperand)
     × (mutation_fault (Add key (replicate 17 1)) ≡ Some BadOperand)
     × (mutation_fault (Add key (replicate 16 1)) ≡ None)
+    × (new_value (Stamped key (one 5) 0) (Some (one 7)) ≡ Some (one 5))
 
 -- How many bytes a mutation of each kind has whose key has one byte and whose value or operand has two, and one of a
 -- range with bounds of one byte and of two.
@@ -70,6 +71,7 @@ WorkedSizes =
     × (mutation_size (ByteMin (one 97) (two 1 2)) ≡ 3)
     × (mutation_size (ByteMax (one 97) (two 1 2)) ≡ 3)
     × (mutation_size (CompareAndClear (one 97) (two 1 2)) ≡ 3)
+    × (mutation_size (Stamped (one 97) (two 1 2) 0) ≡ 3)
 
 -- Every kind but a clear of a key and one of a range carries the value or operand that it was made with.
 abbrev pub OperandsAreCarried : Type 0
@@ -85,6 +87,7 @@ OperandsAreCarried =
     × (carried (ByteMin key operand) ≡ operand)
     × (carried (ByteMax key operand) ≡ operand)
     × (carried (CompareAndClear key operand) ≡ operand)
+    × (carried (Stamped key operand 3) ≡ operand)
 
 -- What is left of a clear of a range that is cut to the keys from 2 to 5: all of it, its part there, or nothing where
 -- the two have no point in common. A mutation of a key that lies there is left as it is, and one of another key isn't.
@@ -111,10 +114,12 @@ WorkedClips =
     × (clipped_mutation (span 2 5) (ByteMin (one 3) (one 7)) ≡ Some (ByteMin (one 3) (one 7)))
     × (clipped_mutation (span 2 5) (ByteMax (one 3) (one 7)) ≡ Some (ByteMax (one 3) (one 7)))
     × (clipped_mutation (span 2 5) (CompareAndClear (one 3) (one 7)) ≡ Some (CompareAndClear (one 3) (one 7)))
+    × (clipped_mutation (span 2 5) (Stamped (one 3) (one 7) 4) ≡ Some (Stamped (one 3) (one 7) 4))
+    × (clipped_mutation (span 2 5) (Stamped (one 6) (one 7) 4) ≡ None)
     × ((map : Map) → effect_of map None ≡ map)
     × ((map : Map) → effect_of map (Some (Clear (one 3))) ≡ effect map (Clear (one 3)))
 
--- A set and the clears are blind, and no other kind is.
+-- A set, the clears and a stamped value are blind, and no other kind is.
 abbrev pub WorkedBlindness : Type 0
 WorkedBlindness =
     (key operand : List ℕ) (range : Range)
@@ -130,3 +135,4 @@ WorkedBlindness =
     × (is_blind (ByteMin key operand) ≡ false)
     × (is_blind (ByteMax key operand) ≡ false)
     × (is_blind (CompareAndClear key operand) ≡ false)
+    × (is_blind (Stamped key operand 0) ≡ true)

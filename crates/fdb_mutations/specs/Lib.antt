@@ -10,3 +10,6 @@ pub mod Operands
 pub mod PairExamples
 pub mod PairLaws
 pub mod Pairs
+pub mod StampExamples
+pub mod Stamping
+pub mod Stamps

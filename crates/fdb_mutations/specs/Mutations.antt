@@ -10,11 +10,12 @@ use Rattle.fdb_keys.specs.declared.refusal.Refusal.{Refusal}
 use Rattle.fdb_keys.specs.declared.refusal.Refusal.TheVariants.{ValueTooLarge, BadOperand}
 use Rattle.fdb_mutations.specs.declared.mutation.Mutation.{Mutation}
 use Rattle.fdb_mutations.specs.declared.mutation.Mutation.TheVariants.{Set, Clear, ClearRange, Add, And, Or, Xor, Max}
-use Rattle.fdb_mutations.specs.declared.mutation.Mutation.TheVariants.{Min, ByteMin, ByteMax, CompareAndClear}
+use Rattle.fdb_mutations.specs.declared.mutation.Mutation.TheVariants.{Min, ByteMin, ByteMax, CompareAndClear, Stamped}
 use Rattle.fdb_mutations.specs.Limits.{value_limit}
 use Rattle.fdb_mutations.specs.Maps.{Map}
 use Rattle.fdb_mutations.specs.Naming.{NamedKeys, OneKey, KeysIn, is_named, range_of, naming_size}
 use Rattle.fdb_mutations.specs.Numbers.{greater_number, lesser_number}
+use Rattle.fdb_mutations.specs.Stamps.{has_room}
 use Rattle.fdb_mutations.specs.Operands.{fit, present, combined, bytewise, sum_of, is_addend, has_value}
 
 -- what the mutation names
@@ -31,6 +32,7 @@ named (Min key operand) = OneKey key
 named (ByteMin key operand) = OneKey key
 named (ByteMax key operand) = OneKey key
 named (CompareAndClear key operand) = OneKey key
+named (Stamped key operand offset) = OneKey key
 
 -- the value or operand that the mutation carries, with no bytes where it carries none
 abbrev pub carried : Mutation → List ℕ
@@ -46,8 +48,10 @@ carried (Min key operand) = operand
 carried (ByteMin key operand) = operand
 carried (ByteMax key operand) = operand
 carried (CompareAndClear key operand) = operand
+carried (Stamped key operand offset) = operand
 
--- What stands at a point that the mutation names, by what stood there.
+-- What stands at a point that the mutation names, by what stood there. The bare operand of a Stamped stands for what it
+-- becomes at its commit.
 abbrev pub new_value : Mutation → Option (List ℕ) → Option (List ℕ)
 new_value (Set key value) old = Some value
 new_value (Clear key) old = None
@@ -62,17 +66,20 @@ new_value (Min key operand) old =
 new_value (ByteMin key operand) old = Some (combined lesser_point old operand)
 new_value (ByteMax key operand) old = Some (combined greater_point old operand)
 new_value (CompareAndClear key operand) old = if has_value old operand then None else old
+new_value (Stamped key operand offset) old = Some operand
 
 -- the new value doesn't depend on the old one
 abbrev pub is_blind : Mutation → Bool
 is_blind (Set key value) = true
 is_blind (Clear key) = true
 is_blind (ClearRange range) = true
+is_blind (Stamped key operand offset) = true
 is_blind mutation = false
 
 -- why the operand is none that the mutation takes
 abbrev pub operand_fault : Mutation → Option Refusal
 operand_fault (Add key operand) = if is_addend operand then None else Some BadOperand
+operand_fault (Stamped key operand offset) = if has_room operand offset then None else Some BadOperand
 operand_fault mutation = None
 
 -- why a mutation is not a legal one

@@ -9,6 +9,8 @@ ghost use Rattle.fdb_mutations.specs.PairExamples.{WorkedReads, WorkedLimits};
 ghost use Rattle.fdb_mutations.specs.PairLaws.{RangeHasThePairsOfItsParts, PairsFromAKeyOn, KeyHasItsPair};
 ghost use Rattle.fdb_mutations.specs.PairLaws.{SameValuesSamePairs, NoValuesNoPairs, ScannedLiesInTheRange};
 ghost use Rattle.fdb_mutations.specs.PairLaws.{ScannedHasWhatWasGiven, ScannedDecidesWhatIsGiven};
+ghost use Rattle.fdb_mutations.specs.StampExamples.{WorkedStamps};
+ghost use Rattle.fdb_mutations.specs.Stamping.{StampsAreFinal, StampsKeepNames, StampsKeepSizes, StampsRise};
 
 use crate::mutation::Mutation;
 
@@ -77,4 +79,14 @@ pub fn worked_reads()
 /// Two mutations are equal exactly where they are the same.
 pub fn equal_mutations_are_the_same()
     ensures { (a b : Mutation) → Decides (mutation_eq a b) (a ≡ b) }
+{}
+
+/// A stamp leaves a mutation its key or range, and a legal one its size; what has a stamp waits for none. Stamps are in
+/// the order of commits, as bytes: those of two places of a batch differ.
+pub fn stamps_are_in_the_order_of_commits()
+    ensures done { StampsAreFinal }
+    ensures names { StampsKeepNames }
+    ensures sizes { StampsKeepSizes }
+    ensures rise { StampsRise }
+    ensures worked { WorkedStamps }
 {}

@@ -10,9 +10,12 @@ mod page;
 mod paging;
 mod pairs;
 mod plain_map;
+mod stamp;
+mod stamping;
 
 pub use mutation::{Mutation, Named, VALUE_LIMIT};
 pub use operands::copied;
 pub use page::Page;
 pub use paging::{one_more, page_of};
 pub use plain_map::PlainMap;
+pub use stamp::{STAMP_SIZE, Stamp};

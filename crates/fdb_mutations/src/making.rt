@@ -23,7 +23,7 @@ impl Mutation {
     ghost use Rattle.fdb_keys.specs.Texts.{key_fault, range_fault};
     ghost use Rattle.fdb_mutations.specs.declared.mutation.Mutation.TheVariants.{Set, Clear, ClearRange, Add, And, Or};
     ghost use Rattle.fdb_mutations.specs.declared.mutation.Mutation.TheVariants.{Xor, Max, Min, ByteMin, ByteMax};
-    ghost use Rattle.fdb_mutations.specs.declared.mutation.Mutation.TheVariants.{CompareAndClear};
+    ghost use Rattle.fdb_mutations.specs.declared.mutation.Mutation.TheVariants.{CompareAndClear, Stamped};
 
     /// The key is to have the value. Refused as `Key::new` refuses the key, and as `NoMemory`; the value is looked at
     /// by `check` alone, as the operands of the other mutations are. O(n) in the bytes given.
@@ -122,5 +122,18 @@ impl Mutation {
     {
         let (key, operand) = key_and_bytes(alloc, key, operand)?;
         Ok(Mutation::CompareAndClear { key, operand })
+    }
+
+    /// The key is to have the operand, whose ten bytes at the offset are to be the stamp of the commit. Refused as
+    /// `set` is; whether the operand has ten bytes there is looked at by `check` alone.
+    pub fn stamped(alloc: Global, key: &[u8], operand: &[u8], offset: u32) -> Result<Self, Refusal>
+        ensures { Answers result (key_fault key.now) (λ mutation. mutation ≡ Stamped key.now operand.now offset) }
+    {
+        let (key, operand) = key_and_bytes(alloc, key, operand)?;
+        Ok(Mutation::Stamped {
+            key,
+            operand,
+            offset,
+        })
     }
 }

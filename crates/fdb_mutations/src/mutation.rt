@@ -13,6 +13,7 @@ ghost use Rattle.fdb_mutations.specs.declared.mutation.Mutation.TheVariants.{Set
 use crate::operands::{
     added, and, byte_max, byte_min, copy, is_addend, max, min, or, unless_equal, xor,
 };
+use crate::stamp::has_room;
 use bytes::Bytes;
 use fdb_keys::{Key, KeyRange, Refusal};
 use std::alloc::{AllocError, Global};
@@ -28,29 +29,69 @@ pub const VALUE_LIMIT: usize = 100_000;
 #[derive(Drop, PartialEq, Eq)]
 pub enum Mutation {
     /// The key has the value from now on.
-    Set { key: Key, value: Bytes },
+    Set {
+        key: Key,
+        value: Bytes,
+    },
     /// The key has no value from now on.
-    Clear { key: Key },
+    Clear {
+        key: Key,
+    },
     /// The keys of the range have no value from now on.
-    ClearRange { range: KeyRange },
+    ClearRange {
+        range: KeyRange,
+    },
     /// The operand, of 1 to 16 bytes, is added to the value as a number, wrapped at its length.
-    Add { key: Key, operand: Bytes },
+    Add {
+        key: Key,
+        operand: Bytes,
+    },
     /// The bits that the value and the operand both have.
-    And { key: Key, operand: Bytes },
+    And {
+        key: Key,
+        operand: Bytes,
+    },
     /// The bits that the value or the operand has.
-    Or { key: Key, operand: Bytes },
+    Or {
+        key: Key,
+        operand: Bytes,
+    },
     /// The bits that one of the value and the operand has.
-    Xor { key: Key, operand: Bytes },
+    Xor {
+        key: Key,
+        operand: Bytes,
+    },
     /// The greater of the value and the operand, as numbers.
-    Max { key: Key, operand: Bytes },
+    Max {
+        key: Key,
+        operand: Bytes,
+    },
     /// The smaller of the value and the operand, as numbers.
-    Min { key: Key, operand: Bytes },
+    Min {
+        key: Key,
+        operand: Bytes,
+    },
     /// The smaller of the value and the operand, in the order of bytes and without a change of length.
-    ByteMin { key: Key, operand: Bytes },
+    ByteMin {
+        key: Key,
+        operand: Bytes,
+    },
     /// The greater of the value and the operand, in the order of bytes and without a change of length.
-    ByteMax { key: Key, operand: Bytes },
+    ByteMax {
+        key: Key,
+        operand: Bytes,
+    },
     /// The key has no value from now on, if it had the operand.
-    CompareAndClear { key: Key, operand: Bytes },
+    CompareAndClear {
+        key: Key,
+        operand: Bytes,
+    },
+    /// The key has the operand from now on, whose ten bytes at the offset are the stamp of its commit.
+    Stamped {
+        key: Key,
+        operand: Bytes,
+        offset: u32,
+    },
 }
 
 /// What a mutation names.
@@ -64,7 +105,8 @@ pub enum Named<'a> {
 
 impl Mutation {
     /// Whether the mutation is a legal one. Refused as `ValueTooLarge` where a value or an operand exceeds 100,000
-    /// bytes, and as `BadOperand` where a number to add has no byte or more than 16.
+    /// bytes, and as `BadOperand` where a number to add has no byte or more than 16, and where an operand hasn't the
+    /// ten bytes of a stamp at its offset.
     pub fn check(&self) -> Result<(), Refusal>
         ensures { AnswersExactly result (mutation_fault self.now) (λ _. ⊤) }
     {
@@ -75,6 +117,11 @@ impl Mutation {
             Mutation::Add { operand, .. } if !is_addend(operand.as_slice()) => Err(
                 Refusal::BadOperand,
             ),
+            Mutation::Stamped {
+                operand,
+                offset,
+                ..
+            } if !has_room(operand.as_slice(), *offset) => Err(Refusal::BadOperand),
             _ => Ok(()),
         }
     }
@@ -95,7 +142,8 @@ impl Mutation {
             | Mutation::Min { key, .. }
             | Mutation::ByteMin { key, .. }
             | Mutation::ByteMax { key, .. }
-            | Mutation::CompareAndClear { key, .. } => Named::Key(key),
+            | Mutation::CompareAndClear { key, .. }
+            | Mutation::Stamped { key, .. } => Named::Key(key),
         }
     }
 
@@ -128,7 +176,10 @@ impl Mutation {
         ensures { result ≡ is_blind self.now }
     {
         match self {
-            Mutation::Set { .. } | Mutation::Clear { .. } | Mutation::ClearRange { .. } => true,
+            Mutation::Set { .. }
+            | Mutation::Clear { .. }
+            | Mutation::ClearRange { .. }
+            | Mutation::Stamped { .. } => true,
             _ => false,
         }
     }
@@ -144,8 +195,9 @@ impl Mutation {
         (naming + self.carried().len()) as u64
     }
 
-    /// What stands at a key that the mutation names, by what stood there. Refused only as `NoMemory`. A clear of a
-    /// key or of a range takes no memory, and is never refused. An `Add` that `check` refuses leaves what stood there.
+    /// What stands at a key that the mutation names, by what stood there. Refused only as `NoMemory`. A clear of a key
+    /// or of a range takes no memory, and is never refused. An `Add` that `check` refuses leaves what stood there. Of a
+    /// `Stamped` the bare operand stands for what it becomes at its commit.
     pub fn apply_value(
         &self,
         alloc: Global,
@@ -167,6 +219,7 @@ impl Mutation {
             Mutation::ByteMin { operand, .. } => Ok(Some(byte_min(value, operand)?)),
             Mutation::ByteMax { operand, .. } => Ok(Some(byte_max(value, operand)?)),
             Mutation::CompareAndClear { operand, .. } => unless_equal(value, operand),
+            Mutation::Stamped { operand, .. } => Ok(Some(copy(operand)?)),
         }
     }
 
@@ -225,7 +278,8 @@ impl Mutation {
             | Mutation::Min { operand, .. }
             | Mutation::ByteMin { operand, .. }
             | Mutation::ByteMax { operand, .. }
-            | Mutation::CompareAndClear { operand, .. } => operand.as_slice(),
+            | Mutation::CompareAndClear { operand, .. }
+            | Mutation::Stamped { operand, .. } => operand.as_slice(),
         }
     }
 }
@@ -275,6 +329,18 @@ impl Clone for Mutation {
             Mutation::CompareAndClear { key, operand } => {
                 let (key, operand) = copies(key, operand)?;
                 Ok(Mutation::CompareAndClear { key, operand })
+            }
+            Mutation::Stamped {
+                key,
+                operand,
+                offset,
+            } => {
+                let (key, operand) = copies(key, operand)?;
+                Ok(Mutation::Stamped {
+                    key,
+                    operand,
+                    offset: *offset,
+                })
             }
         }
     }

@@ -1,6 +1,7 @@
 use crate::mutation::{Mutation, Named};
 use crate::paging::{one_more, page_of};
 use crate::pairs::{backward, clear_pairs, copies, forward};
+use crate::stamp::Stamp;
 use bytes::Bytes;
 use fdb_keys::{Items, Key, KeyRange, Refusal};
 use std::alloc::Global;
@@ -38,6 +39,8 @@ impl PlainMap {
     ghost use Rattle.fdb_keys.specs.Texts.{is_key};
     ghost use Rattle.fdb_mutations.specs.Mutations.{effect, with_value};
     ghost use Rattle.fdb_mutations.specs.Pairs.{pairs_in, first_of};
+    ghost use Rattle.fdb_mutations.specs.Stamping.{stamped};
+    ghost use Rattle.fdb_mutations.specs.Stamps.{stamp_bytes};
     ghost use Rattle.fdb_mutations.specs.declared.mutation.Mutation.TheVariants.{Clear, ClearRange};
 
     /// The empty map. It takes no memory.
@@ -70,6 +73,22 @@ impl PlainMap {
                 Ok(())
             }
         }
+    }
+
+    /// Applies the mutation with the stamp of its commit, as `Mutation::stamp` makes it. Refused only as `NoMemory`,
+    /// and then nothing changes. It takes what `apply` takes, and a copy of the operand of a `Stamped`.
+    pub fn apply_stamped(&mut self, mutation: &Mutation, stamp: Stamp) -> Result<(), Refusal>
+        ensures answers { Answers result None (λ _. self.new
+            ≡ effect self.old (stamped (stamp_bytes stamp.version stamp.place) mutation.now)) }
+        ensures err { OnErr result (self.new ≡ self.old) }
+    {
+        if !mutation.is_stamped() {
+            return self.apply(mutation);
+        }
+        let set = mutation.stamp(self.alloc, stamp)?;
+        let applied = self.apply(&set);
+        drop(set);
+        applied
     }
 
     /// The value of the key, if it has one.

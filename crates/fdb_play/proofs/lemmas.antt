@@ -8,6 +8,7 @@ pub mod Lines
 pub mod Numbers
 pub mod ReadBack
 pub mod Script
+pub mod ScriptExamples
 pub mod Tallies
 pub mod Texts
 pub mod Words

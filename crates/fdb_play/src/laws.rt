@@ -1,6 +1,7 @@
-//! What is counted of drawn steps, for the reader of its definitions.
+//! What is counted of drawn steps, and what lines of a script write, for the reader of the definitions.
 ghost use Rattle.fdb_play.specs.random.Examples.{WorkedCounts, WorkedNotes, WorkedReports, WorkedSteps};
 ghost use Rattle.fdb_play.specs.random.Runs.{RunsCountSteps};
+ghost use Rattle.fdb_play.specs.script.Examples.{WorkedStampedLines};
 
 /// What is counted of a run has each of its steps once: as refused, with its code, or as accepted, with its kind.
 pub fn a_run_counts_each_step_once()
@@ -14,4 +15,9 @@ pub fn worked_examples()
     ensures notes { WorkedNotes }
     ensures steps { WorkedSteps }
     ensures reports { WorkedReports }
+{}
+
+/// Which lines write a stamped value, and which write nothing, by examples.
+pub fn worked_lines()
+    ensures { WorkedStampedLines }
 {}

@@ -11,5 +11,6 @@ mod PartingLemmas
 mod RequestLemmas
 mod ResolvingLemmas
 mod SpreadLemmas
+mod StampLemmas
 mod TicketLemmas
 mod VerdictLemmas

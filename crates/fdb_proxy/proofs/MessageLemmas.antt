@@ -8,9 +8,10 @@ use Rattle.fdb_txn.specs.book.Transactions.{Transaction}
 use Rattle.fdb_txn.specs.book.Book.{Head, Place, Seen, head_of, placed}
 use Rattle.fdb_txn.specs.rules.Admission.{is_fresh, no_conflict, admits, all_below, committed}
 use Rattle.fdb_txn.specs.rules.Messages.{Body, at_place, committed_from, committed_in}
+use Rattle.fdb_txn.specs.rules.Stamped.{stamped_at}
 use Rattle.fdb_storage.specs.LogMessages.{tagged}
 use Rattle.fdb_proxy.specs.declared.outcome.Outcome.TheVariants as outcome
-use Rattle.fdb_proxy.specs.Logging.{is_commit, answers_by, body_by, message_with}
+use Rattle.fdb_proxy.specs.Logging.{is_commit, answers_by, written, body_by, message_with}
 use Rattle.fdb_proxy.specs.MessageLaws.{MessagesHoldTheCommitted}
 use Rattle.fdb_proxy.specs.Verdicts.{outcome_at, outcomes_from, outcomes_on}
 
@@ -30,14 +31,32 @@ commit-at splits earlier place p =
     by_cases true true false = refl
     by_cases true true true = refl
 
+-- what a transaction writes by the rule's outcome: its stamped mutations just where its place is committed
+pub written-at : (splits : List Point) (head : Head) (earlier : List Place) (p : ℕ) (t : Transaction)
+    → written (outcome_at splits earlier (placed head p t) p) p t
+    ≡ (if committed splits earlier (placed head p t) then at_place p (stamped_at (placed head p t)) else [])
+written-at splits head earlier p t =
+    by_cases (is_fresh (placed head p t)) (no_conflict splits (length splits) earlier (placed head p t))
+    (all_below (length splits) (λ i. admits splits i earlier (placed head p t)))
+  where
+    by_cases : (fresh free others : Bool)
+        → written (if fresh
+        then (if fresh && free && others then outcome.Commit head.version p else outcome.Conflict)
+        else outcome.Old) p t
+        ≡ (if fresh && free && others then at_place p (stamped_at (placed head p t)) else [])
+    by_cases false free others = refl
+    by_cases true false others = refl
+    by_cases true true false = refl
+    by_cases true true true = refl
+
 -- the same as `body-committed`, from place p on
 body-from : (splits : List Point) (head : Head) (batch : List Transaction) (earlier : List Place) (p : ℕ)
     → body_by p batch (answers_by batch (outcomes_from splits head batch earlier p))
     ≡ committed_from splits head p batch earlier
 body-from splits head [] earlier p = refl
 body-from splits head (t ∷ ts) earlier p =
-    ap₂ (λ (commits : Bool) (others : Body). (if commits then at_place p t.mutations else []) ++ others)
-    (commit-at splits earlier (placed head p t) p)
+    ap₂ (λ (first others : Body). first ++ others)
+    (written-at splits head earlier p t)
     (body-from splits head ts (placed head p t ∷ earlier) (suc p))
 
 -- the mutations by the rule's outcomes are those of the committed transactions

@@ -14,7 +14,7 @@ use Rattle.fdb_sequencer.specs.declared.dated.Dated.{Dated}
 use Rattle.fdb_sequencer.specs.declared.ticket.Ticket.{Ticket}
 use Rattle.fdb_sequencer.specs.TicketLaws.{AreRisingUpTo}
 use Rattle.fdb_txn.specs.declared.entry.Move.{Move}
-use Rattle.fdb_txn.specs.book.Book.{Stamped, add_moves}
+use Rattle.fdb_txn.specs.book.Book.{DatedMove, add_moves}
 use Rattle.fdb_owners.specs.Ownership.{Ownership, learn_fault, HasLearnt}
 use Rattle.fdb_owners.specs.OwnersLaws.{AgreesWith}
 use Rattle.fdb_owners.proofs.Exports.{learning_goes_on}
@@ -47,11 +47,11 @@ may-learn owners version above =
     ap (λ (b : Bool). if b then Some Stale else None) (lt-leb version owners.last above)
 
 -- the moves at an index come after those before it
-moves-next : (dated : List Dated) (i : ℕ) (of : Dated) (older : List Stamped) → slice_get dated i ≡ Some of
+moves-next : (dated : List Dated) (i : ℕ) (of : Dated) (older : List DatedMove) → slice_get dated i ≡ Some of
     → moves_with (take (i + 1) dated) older ≡ add_moves of.version of.moves (moves_with (take i dated) older)
 moves-next dated i of older there =
     ap (λ (some : List Dated). moves_with some older) (take_more dated i of (slice_get_within dated i of there))
-    ∙ fold-append (λ (moves : List Stamped) (one : Dated). add_moves one.version one.moves moves) older (take i dated)
+    ∙ fold-append (λ (moves : List DatedMove) (one : Dated). add_moves one.version one.moves moves) older (take i dated)
     (get_or dated i of ∷ [])
     ∙ ap (λ (one : Dated). add_moves one.version one.moves (moves_with (take i dated) older))
     (get_or_from_slice_get dated i of of there)
@@ -59,8 +59,8 @@ moves-next dated i of older there =
 -- owners that agreed with the moves before those at an index agree with them too, once these were learnt
 pub agrees-next : (dated : List Dated) (i : ℕ) (of : Dated) (learnt : List Move) (first old new : Ownership)
     → slice_get dated i ≡ Some of → learnt ≡ of.moves → HasLearnt old of.version learnt new
-    → ((moves : List Stamped) → AgreesWith first moves → AgreesWith old (moves_with (take i dated) moves))
-    → (moves : List Stamped) → AgreesWith first moves → AgreesWith new (moves_with (take (i + 1) dated) moves)
+    → ((moves : List DatedMove) → AgreesWith first moves → AgreesWith old (moves_with (take i dated) moves))
+    → (moves : List DatedMove) → AgreesWith first moves → AgreesWith new (moves_with (take (i + 1) dated) moves)
 agrees-next dated i of learnt first old new there same has before moves agrees =
     subst (AgreesWith new) (sym (moves-next dated i of moves there))
     (learning_goes_on old new (moves_with (take i dated) moves) of.version of.moves (before moves agrees)

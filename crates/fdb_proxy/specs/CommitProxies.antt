@@ -1,5 +1,5 @@
 -- A commit proxy, what each call answers, and what it leaves.
-use Rattle.std.specs.Prelude.{◌≡◌, ◌<◌, ◌≤◌, ⊤, ℕ, max, min, Bool, true, false, not, ◌||◌, ◌++◌, nat_le, List, []}
+use Rattle.std.specs.Prelude.{◌≡◌, ◌<◌, ◌≤◌, ⊤, ℕ, min, Bool, true, false, not, ◌||◌, ◌++◌, nat_le, List, []}
 use Rattle.std.specs.Prelude.{◌∷◌, fold, length, replicate, take, drop, Option, Some, None, if◌then◌else◌}
 use Rattle.std.specs.List.{AllByRecursion, list_any}
 use Rattle.std.specs.Option.{option_or, is_none}
@@ -7,7 +7,7 @@ use Rattle.fdb_keys.specs.Points.{Point}
 use Rattle.fdb_keys.specs.declared.refusal.Refusal.{Refusal}
 use Rattle.fdb_keys.specs.declared.refusal.Refusal.TheVariants.{NotYet, Stale, Failed, Repeated, WrongState, BadConfig}
 use Rattle.fdb_txn.specs.declared.txn_id.TxnId.{TxnId}
-use Rattle.fdb_txn.specs.book.Book.{Stamped, add_moves}
+use Rattle.fdb_txn.specs.book.Book.{DatedMove, add_moves}
 use Rattle.fdb_txn.specs.book.Transactions.{Transaction}
 use Rattle.fdb_txn.specs.Limits.{place_limit}
 use Rattle.fdb_owners.specs.Ownership.{Ownership, resolvers_of, IsNew}
@@ -143,9 +143,9 @@ unsealing p =
     if is_sealed p.stage then record p { batch = []; waiting = p.batch ++ p.waiting; stage = stage.Idle } else p
 
 -- the moves of a list by versions, after older ones
-abbrev pub moves_with : List Dated → List Stamped → List Stamped
+abbrev pub moves_with : List Dated → List DatedMove → List DatedMove
 moves_with dated older =
-    fold (λ (moves : List Stamped) (one : Dated). add_moves one.version one.moves moves) older dated
+    fold (λ (moves : List DatedMove) (one : Dated). add_moves one.version one.moves moves) older dated
 
 -- The ticket may be learnt: its moves go to resolvers that exist, at versions that rise up to the ticket's, which lies
 -- above what the batch read at. Its horizon lies below its version, and the owners have forgotten none from it on.
@@ -182,8 +182,8 @@ without_verdicts position parts = record {
 -- owners that learnt the ticket's moves, and forgot what lies below its horizon
 pub record HaveLearnt (old : Ownership) (ticket : Ticket) (new : Ownership) : Type 0 where
   pub splits : new.splits ≡ old.splits
-  pub floor : new.floor ≡ max old.floor ticket.horizon
-  pub moves : (moves : List Stamped) → AgreesWith old moves → AgreesWith new (moves_with ticket.moves moves)
+  pub floor : new.floor ≡ ticket.horizon
+  pub moves : (moves : List DatedMove) → AgreesWith old moves → AgreesWith new (moves_with ticket.moves moves)
 
 -- a batch at the position of a ticket, before any verdicts came, with a part for each resolver by whatever moves the
 -- owners agree with
@@ -191,7 +191,7 @@ pub record IsWithoutVerdicts (owners : Ownership) (ticket : Ticket) (batch : Lis
     (resolving : Resolving) : Type 0
   where
     pub rest : resolving ≡ without_verdicts (position_of ticket) resolving.parts
-    pub parts : (moves : List Stamped) → AgreesWith owners moves
+    pub parts : (moves : List DatedMove) → AgreesWith owners moves
         → AreParts owners.splits moves (position_of ticket) batch resolving.parts
 
 -- once it learnt a ticket, it waits for verdicts
@@ -212,7 +212,7 @@ pub record HasFailed (old : CommitProxy) (ticket : Ticket) (new : CommitProxy) :
     is_failed = true;
   }
   pub splits : new.owners.splits ≡ old.owners.splits
-  pub floor : new.owners.floor ≤ max old.owners.floor ticket.horizon
+  pub floor : new.owners.floor ≤ ticket.horizon
 
 -- the parts of the batch that waits for verdicts
 abbrev pub parts_in : Stage → List Part

@@ -4,7 +4,7 @@ use Rattle.std.specs.List.{range_with_len}
 use Rattle.fdb_keys.specs.Points.{Point}
 use Rattle.fdb_keys.specs.declared.refusal.Refusal.TheVariants.{BadConfig}
 use Rattle.fdb_mutations.specs.Examples.{one}
-use Rattle.fdb_txn.specs.book.Book.{Stamped, head_at}
+use Rattle.fdb_txn.specs.book.Book.{DatedMove, head_at}
 use Rattle.fdb_txn.specs.book.Transactions.{Transaction}
 use Rattle.fdb_proxy.specs.declared.config.Config.{Config}
 use Rattle.fdb_proxy.specs.Askers.{granted}
@@ -75,7 +75,7 @@ WorkedGrants =
     ≡ (client, 100) ∷ (1, 140) ∷ (2, 100) ∷ (client, 100) ∷ [])
 
 -- of two resolvers, 0 has the keys below `m` and 1 the others, up to version 60, from which 0 has all
-abbrev pub moved : List Stamped
+abbrev pub moved : List DatedMove
 moved = record { version = 60; range = record { begin = one 109; end = one 122 }; target = 0 } ∷ []
 
 -- a transaction that read `p` at the version
@@ -94,7 +94,8 @@ abbrev pub asks : (i horizon read : ℕ) → Bool
 asks i horizon read = asks_about (one 109 ∷ []) (head_at 200 horizon moved) i 0 (reader read ∷ [])
 
 -- Reads are asked of whoever owned them at a version above the read version, or above the horizon where that is
--- greater: a read below the horizon is asked of the owners from the horizon on.
+-- greater: a read below the horizon is asked of the owners from the horizon on. Where the greater one isn't below the
+-- place's version, nobody is asked.
 abbrev pub WorkedSpans : Type 0
 WorkedSpans =
     (asks 0 20 40 ≡ true)
@@ -104,3 +105,7 @@ WorkedSpans =
     × (asks 1 58 40 ≡ true)
     × (asks 1 59 40 ≡ false)
     × (asks 0 59 40 ≡ true)
+    × (asks 0 199 40 ≡ true)
+    × (asks 0 200 40 ≡ false)
+    × (asks 0 20 199 ≡ true)
+    × (asks 0 20 200 ≡ false)

@@ -17,5 +17,6 @@ pub mod RequestFields
 pub mod Requests
 pub mod Resolving
 pub mod Spreads
+pub mod StampExamples
 pub mod VerdictLaws
 pub mod Verdicts

@@ -1,11 +1,12 @@
 -- What a commit proxy makes for the logs once its batch is decided.
 use Rattle.std.specs.Prelude.{ℕ, suc, Bool, true, false, ◌==◌, ◌&&◌, not, nat_lt, List, [], ◌∷◌, ◌++◌, map, filter}
-use Rattle.std.specs.Prelude.{length, slice_set, if◌then◌else◌}
+use Rattle.std.specs.Prelude.{length, slice_set}
 use Rattle.std.specs.List.{range_with_len}
 use Rattle.fdb_keys.specs.Points.{Point}
 use Rattle.fdb_txn.specs.declared.txn_id.TxnId.{TxnId}
 use Rattle.fdb_txn.specs.book.Transactions.{Transaction}
 use Rattle.fdb_txn.specs.rules.Messages.{Body, at_place}
+use Rattle.fdb_txn.specs.rules.Stamped.{stamped_by}
 use Rattle.fdb_log.specs.declared.message.LogAck.{LogAck}
 use Rattle.fdb_log.specs.declared.message.LogMsg.{LogMsg}
 use Rattle.fdb_log.specs.declared.message.Tagged.{Tagged}
@@ -27,12 +28,20 @@ answers_by [] outcomes = []
 answers_by (t ∷ ts) [] = []
 answers_by (t ∷ ts) (outcome ∷ outcomes) = (t.id, outcome) ∷ answers_by ts outcomes
 
--- the mutations of those transactions, from place p on, that commit: by place, and then in the transaction's order
+-- what a transaction at place p writes by what becomes of it: its mutations with the stamp of its commit, and nothing
+-- where it doesn't commit
+abbrev pub written : Outcome → ℕ → Transaction → Body
+written (outcome.Commit version place) p t = at_place p (stamped_by version place t.mutations)
+written outcome.Conflict p t = []
+written outcome.Old p t = []
+
+-- the stamped mutations of those transactions, from place p on, that commit: by place, and then in the transaction's
+-- order
 abbrev pub body_by : ℕ → List Transaction → List (TxnId × Outcome) → Body
 body_by p [] answers = []
 body_by p (t ∷ ts) [] = []
 body_by p (t ∷ ts) (answer ∷ answers) =
-    (if is_commit answer.1 then at_place p t.mutations else []) ++ body_by (suc p) ts answers
+    written answer.1 p t ++ body_by (suc p) ts answers
 
 -- the message for a log, of so many, with those of these mutations of which it keeps a tag
 abbrev pub message_with : ℕ → Position → List Tagged → ℕ → LogMsg

@@ -1,7 +1,7 @@
 -- What each resolver is sent of a batch.
 use Rattle.std.specs.Prelude.{◌≡◌, ◌⊎◌, ℕ, suc, true, false, List, [], ◌∷◌, length, Some, slice_get}
 use Rattle.fdb_keys.specs.Points.{Point}
-use Rattle.fdb_txn.specs.book.Book.{Stamped, Head, head_at, placed}
+use Rattle.fdb_txn.specs.book.Book.{DatedMove, Head, head_at, placed}
 use Rattle.fdb_txn.specs.book.Transactions.{Transaction}
 use Rattle.fdb_txn.specs.rules.Owners.{is_asked}
 use Rattle.fdb_resolver.specs.declared.part.Item.{Item}
@@ -21,7 +21,7 @@ module _ (splits : List Point) (head : Head) (i : ℕ) where
       ⊎ ((is_asked splits i (placed head p t) ≡ false) × AreItems (suc p) ts items)
 
 -- the part of resolver i of the batch at a position
-pub record IsPartOf (splits : List Point) (moves : List Stamped)
+pub record IsPartOf (splits : List Point) (moves : List DatedMove)
     (position : Position) (batch : List Transaction) (i : ℕ)
     (part : Part) : Type 0 where
   pub resolver : part.resolver ≡ i
@@ -32,7 +32,7 @@ pub record IsPartOf (splits : List Point) (moves : List Stamped)
   pub items : AreItems splits (head_at position.version position.horizon moves) i 0 batch part.items
 
 -- one part for each resolver
-pub record AreParts (splits : List Point) (moves : List Stamped) (position : Position) (batch : List Transaction)
+pub record AreParts (splits : List Point) (moves : List DatedMove) (position : Position) (batch : List Transaction)
     (parts : List Part) : Type 0 where
   pub count : length parts ≡ suc (length splits)
   pub each : (i : ℕ) (part : Part) → slice_get parts i ≡ Some part → IsPartOf splits moves position batch i part

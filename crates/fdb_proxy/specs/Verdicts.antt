@@ -3,7 +3,7 @@ use Rattle.std.specs.Prelude.{ℕ, suc, Bool, ◌||◌, List, [], ◌∷◌, if�
 use Rattle.fdb_keys.specs.Points.{Point}
 use Rattle.fdb_txn.specs.declared.entry.Entry.{Entry}
 use Rattle.fdb_txn.specs.book.Transactions.{Transaction}
-use Rattle.fdb_txn.specs.book.Book.{Stamped, Head, Place, Seen, add_moves, head_of, placed}
+use Rattle.fdb_txn.specs.book.Book.{DatedMove, Head, Place, Seen, add_moves, head_of, placed}
 use Rattle.fdb_txn.specs.rules.Owners.{is_asked}
 use Rattle.fdb_txn.specs.rules.Admission.{is_fresh, admits, committed}
 use Rattle.fdb_resolver.specs.declared.verdict.Verdict.{Verdict}
@@ -46,7 +46,7 @@ module _ (splits : List Point) (head : Head) where
       outcome_at splits earlier place p ∷ outcomes_from ts (place ∷ earlier) (suc p)
 
 -- the moves through an entry, after what was seen before it
-abbrev pub moves_through : Seen → Entry → List Stamped
+abbrev pub moves_through : Seen → Entry → List DatedMove
 moves_through before entry = add_moves entry.version entry.moves before.moves
 
 -- resolver i's verdicts on an entry, by place

@@ -311,7 +311,8 @@ impl CommitCore {
     /// Decides the batch, as `decide` does, and answers with what becomes of each place the message of the batch for
     /// each log, as `messages` does then. Refused as `decide` is, also where memory runs out for the messages. Then
     /// nothing changes. Once the tags are found, it takes O(n + l) time for the n places, verdicts and mutations of one
-    /// tag of the batch and l logs, and O(l t) more for each mutation of t tags.
+    /// tag of the batch and l logs, O(l t) more for each mutation of t tags, and O(b) more for operands of b bytes that
+    /// are stamped.
     pub fn decide_with_messages(&mut self) -> Result<(Items<Outcome>, Items<LogMsg>), Refusal>
         ensures answers { Answers result (decide_fault self.old.proxy) (λ given.
             (given.0 ≡ outcomes_in self.old.proxy) × (self.new.proxy ≡ deciding self.old.proxy)
@@ -325,8 +326,11 @@ impl CommitCore {
     }
 
     /// The message of the batch for each log: the mutations of the places that commit of which the log keeps a tag, by
-    /// place and then in the transaction's order. Refused as `Failed`, as `WrongState` unless the batch is decided and
-    /// isn't done, and as `NoMemory`.
+    /// place and then in the transaction's order. Each has the stamp of its commit, the batch's version and its place:
+    /// no message has a `Stamped`. Once the tags are found, it takes O(n + l) time for the n places and mutations of
+    /// one tag of the batch and l logs, O(l t) more for each mutation of t tags, and O(b) more for operands of b bytes
+    /// that are stamped. Refused as `Failed`, as `WrongState` unless the batch is decided and isn't done, and as
+    /// `NoMemory`.
     pub fn messages(&self) -> Result<Items<LogMsg>, Refusal>
         ensures { Answers result (messages_fault self.now.proxy) (λ messages. messages ≡ messages_of self.now.proxy) }
     {

@@ -6,6 +6,7 @@ ghost use Rattle.fdb_proxy.specs.ConfigExamples.{WorkedConfigs, WorkedNumbers, W
 ghost use Rattle.fdb_proxy.specs.Examples.{WorkedSubmits, WorkedSeals, WorkedStages, WorkedTickets, WorkedVerdicts};
 ghost use Rattle.fdb_proxy.specs.Examples.{WorkedDecisions, WorkedLogging};
 ghost use Rattle.fdb_proxy.specs.MessageLaws.{MessagesHoldTheCommitted};
+ghost use Rattle.fdb_proxy.specs.StampExamples.{WorkedStamps};
 ghost use Rattle.fdb_proxy.specs.VerdictLaws.{BatchesAreJudgedByTheRule, EntriesAreJudgedByTheRule, ItemsWhereAsked};
 ghost use Rattle.fdb_proxy.specs.VerdictLaws.{BatchesAreDecidedByTheRule, EntriesAreDecidedByTheRule};
 
@@ -29,7 +30,7 @@ pub fn verdicts_of_the_asked_decide_as_the_rule()
 {}
 
 /// Once the rule's outcomes of an entry are decided, each log is sent just the mutations of the entry's committed
-/// transactions of which it keeps a tag.
+/// transactions of which it keeps a tag, each with the stamp of its commit.
 pub fn logs_are_sent_what_the_committed_write()
     ensures { MessagesHoldTheCommitted }
 {}
@@ -56,6 +57,12 @@ pub fn worked_calls()
     ensures deciding { WorkedDeciding }
     ensures logged { WorkedLogged }
     ensures finishing { WorkedFinishing }
+{}
+
+/// What logs are told of mutations that wait for a stamp, by examples: the stamps of two places of a batch differ, what
+/// doesn't commit is not told, and what doesn't wait stays as it is.
+pub fn worked_stamps()
+    ensures { WorkedStamps }
 {}
 
 /// Which configurations are legal, which proxies there are, which versions those who ask are granted, and who is asked

@@ -4,10 +4,13 @@ ghost use Rattle.std.specs.Prelude.{IsTrue, IfOk, OnErr, if◌then◌else◌};
 ghost use Rattle.std.specs.List.{range_with_len};
 ghost use Rattle.fdb_keys.specs.Answers.{Answers, AnswersExactly};
 ghost use Rattle.fdb_keys.specs.declared.refusal.Refusal.TheVariants.{Stale};
+ghost use Rattle.fdb_mutations.specs.Stamping.{stamped};
+ghost use Rattle.fdb_mutations.specs.Stamps.{stamp_bytes};
 ghost use Rattle.fdb_txn.specs.rules.Messages.{at_place};
+ghost use Rattle.fdb_txn.specs.rules.Stamped.{stamped_by};
 ghost use Rattle.fdb_storage.specs.LogMessages.{tagged};
 ghost use Rattle.fdb_proxy.specs.Flags.{first_unset};
-ghost use Rattle.fdb_proxy.specs.Logging.{is_commit, answers_by, body_by, message_with, messages_by, is_awaited};
+ghost use Rattle.fdb_proxy.specs.Logging.{answers_by, written, body_by, message_with, messages_by, is_awaited};
 ghost use Rattle.fdb_proxy.specs.Logging.{with_acknowledgement};
 
 use crate::bodies::spread;
@@ -16,7 +19,7 @@ use crate::outcome::Outcome;
 use crate::position::Position;
 use fdb_keys::{Items, Refusal, SharedList};
 use fdb_log::{LogAck, LogMsg, Tagged};
-use fdb_mutations::Mutation;
+use fdb_mutations::{Mutation, Stamp};
 use fdb_storage::ShardMap;
 use fdb_txn::{Sealed, TxnId};
 use std::alloc::{AllocError, Global};
@@ -54,8 +57,9 @@ impl Logging {
         })
     }
 
-    /// The message for each log, of so many, of the batch. Once the tags are found, it takes O(m + l) time for m
-    /// mutations of one tag each and l logs, and O(l t) more for each mutation of t tags.
+    /// The message for each log, of so many, of the batch: its mutations have the stamps of their commits. Once the
+    /// tags are found, it takes O(m + l) time for m mutations of one tag each and l logs, O(l t) more for each mutation
+    /// of t tags, and O(b) more for operands of b bytes that are stamped.
     pub(crate) fn messages(
         &self,
         alloc: Global,
@@ -127,11 +131,20 @@ fn answers_by(
     Ok(answers)
 }
 
-fn tag_mutation(shards: &ShardMap, place: u32, mutation: &Mutation) -> Result<Tagged, Refusal>
-    ensures { Answers result None (λ sent. sent ≡ tagged shards.now (place, mutation.now)) }
+// The mutation with the stamp, and with its tags.
+fn tag_mutation(
+    alloc: Global,
+    shards: &ShardMap,
+    place: u32,
+    stamp: Stamp,
+    mutation: &Mutation,
+) -> Result<Tagged, Refusal>
+    ensures { Answers result None (λ sent. sent
+        ≡ tagged shards.now (place, stamped (stamp_bytes stamp.version stamp.place) mutation.now)) }
 {
+    // They hang on what the mutation names alone, which no stamp changes.
     let tags = shards.tags(mutation)?;
-    let mutation = mutation.clone()?;
+    let mutation = mutation.stamp(alloc, stamp)?;
     Ok(Tagged {
         place,
         mutation,
@@ -140,37 +153,45 @@ fn tag_mutation(shards: &ShardMap, place: u32, mutation: &Mutation) -> Result<Ta
 }
 
 fn add_txn(
+    alloc: Global,
     body: &mut Items<Tagged>,
     shards: &ShardMap,
     place: u32,
+    stamp: Stamp,
     txn: &Sealed,
 ) -> Result<(), Refusal>
-    ensures { Answers result None
-        (λ _. body.new ≡ body.old ++ map (tagged shards.now) (at_place place txn.now.mutations)) }
+    ensures { Answers result None (λ _. body.new ≡ body.old
+        ++ map (tagged shards.now) (at_place place (stamped_by stamp.version stamp.place txn.now.mutations))) }
 {
     for mutation in txn.mutations() {
-        body.push(tag_mutation(shards, place, mutation)?)?;
+        body.push(tag_mutation(alloc, shards, place, stamp, mutation)?)?;
     }
     Ok(())
 }
 
 fn add_place(
+    alloc: Global,
     body: &mut Items<Tagged>,
     shards: &ShardMap,
     place: u32,
     txn: &Sealed,
     outcome: Outcome,
 ) -> Result<(), Refusal>
-    ensures { Answers result None (λ _. body.new ≡ body.old
-        ++ map (tagged shards.now) (if is_commit outcome then at_place place txn.now.mutations else [])) }
+    ensures { Answers result None
+        (λ _. body.new ≡ body.old ++ map (tagged shards.now) (written outcome place txn.now)) }
 {
-    if let Outcome::Commit { .. } = outcome {
-        add_txn(body, shards, place, txn)?;
+    if let Outcome::Commit {
+        version,
+        place: number,
+    } = outcome
+    {
+        let stamp = Stamp::of_place(version, number);
+        add_txn(alloc, body, shards, place, stamp, txn)?;
     }
     Ok(())
 }
 
-// The mutations of the transactions that commit, by place, with their tags.
+// The stamped mutations of the transactions that commit, by place, with their tags.
 fn tagged_body(
     alloc: Global,
     shards: &ShardMap,
@@ -183,7 +204,14 @@ fn tagged_body(
 {
     let mut body = Items::new(alloc);
     for (place, txn) in batch.iter().enumerate() {
-        add_place(&mut body, shards, place as u32, txn, answers[place].1)?;
+        add_place(
+            alloc,
+            &mut body,
+            shards,
+            place as u32,
+            txn,
+            answers[place].1,
+        )?;
     }
     Ok(body)
 }

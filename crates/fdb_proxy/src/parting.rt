@@ -1,16 +1,16 @@
 // What each resolver is sent of a batch.
-ghost use Rattle.std.specs.Prelude.{◌≡◌, ◌<◌, ◌≤◌, ◌-◌, ◌^◌, ◌||◌, ◌++◌, ℕ, All, List, length, None, Option};
-ghost use Rattle.std.specs.Prelude.{◌∷◌, [], true, suc, slice_get, Some, IfOk};
+ghost use Rattle.std.specs.Prelude.{◌≡◌, ◌<◌, ◌≤◌, ◌-◌, ◌^◌, ◌&&◌, ◌||◌, ◌++◌, ℕ, min, List, length};
+ghost use Rattle.std.specs.Prelude.{◌∷◌, [], true, suc, slice_get, Some, None, Option, IfOk};
 ghost use Rattle.std.specs.Option.{option_to_list};
 ghost use Rattle.std.specs.List.{AllByRecursion};
 ghost use Rattle.fdb_keys.specs.Answers.{Answers};
 ghost use Rattle.fdb_keys.specs.Points.{Point};
 ghost use Rattle.fdb_keys.specs.Ranges.{in_set};
-ghost use Rattle.fdb_txn.specs.book.Book.{Stamped, Place, head_at, placed};
+ghost use Rattle.fdb_txn.specs.book.Book.{DatedMove, Place, head_at, placed};
 ghost use Rattle.fdb_txn.specs.rules.Admission.{has_points};
-ghost use Rattle.fdb_owners.specs.Ownership.{resolvers_of};
+ghost use Rattle.fdb_owners.specs.Ownership.{resolvers_of, owned_between};
 ghost use Rattle.fdb_owners.specs.OwnersLaws.{AgreesWith};
-ghost use Rattle.fdb_owners.specs.Spreads.{AreOwned};
+ghost use Rattle.fdb_owners.specs.Spreads.{AreOwned, is_held};
 ghost use Rattle.fdb_proxy.specs.Parting.{AreItems, AreParts};
 ghost use Rattle.fdb_proxy.specs.Spreads.{IsOwned, IsSpreadOf, IsItemIfAsked};
 ghost use Rattle.fdb_proxy.specs.Held.{Held, with_ranges, with_parts, is_at, IsBelow, IsItemWith, EndsWithItem};
@@ -51,20 +51,44 @@ fn has_points(set: &RangeSet) -> bool
     set.iter().any(|range| !range.is_empty())
 }
 
+// The parts of the set, by who owned each key at some version above `from` and at most `version`: nobody did where
+// `from` isn't below `version`.
+fn readers_of(
+    alloc: Global,
+    owners: &Owners,
+    set: &RangeSet,
+    from: u64,
+    version: u64,
+) -> Result<Items<Owned>, Refusal>
+    requires { owners.now.floor ≤ from }
+    ensures owned { IfOk result (AreOwned (resolvers_of owners.now)) }
+    ensures held { Answers result None (λ parts. (i : ℕ) (x : Point)
+        → is_held parts i x ≡ (in_set set.now x && owned_between owners.now i x from version)) }
+{
+    if from >= version {
+        return Ok(Items::new(alloc));
+    }
+    owners.readers_of(set, from, version)
+}
+
 // A transaction of the entry with the version and horizon, spread by owners that have learnt the moves through it.
-fn spread_txn(owners: &Owners, version: u64, horizon: u64, txn: &Sealed) -> Result<Spread, Refusal>
-    requires later { txn.now.read < version }
+fn spread_txn(
+    alloc: Global,
+    owners: &Owners,
+    version: u64,
+    horizon: u64,
+    txn: &Sealed,
+) -> Result<Spread, Refusal>
     requires learnt { owners.now.last ≤ version }
-    requires kept { owners.now.floor ≤ horizon }
-    requires below { horizon < version }
+    requires kept { owners.now.floor ≤ min horizon version }
     ensures owned { IfOk result (IsOwned (resolvers_of owners.now)) }
-    ensures spread { Answers result None (λ spread. (moves : List Stamped) (number : ℕ)
+    ensures spread { Answers result None (λ spread. (moves : List DatedMove) (number : ℕ)
         → AgreesWith owners.now moves
         → IsSpreadOf owners.now.splits (placed (head_at version horizon moves) number txn.now) spread) }
 {
     let read_version = txn.read_version();
     let from = read_version.max(horizon);
-    let reads = owners.readers_of(txn.reads(), from, version)?;
+    let reads = readers_of(alloc, owners, txn.reads(), from, version)?;
     let writes = owners.writers_of(txn.writes())?;
     let reading = Reading {
         read_version,
@@ -233,18 +257,16 @@ fn items_of(
     batch: &[Sealed],
 ) -> Result<Vec<Vec<Item>>, Refusal>
     requires few { length batch.now < 2 ^ 32 }
-    requires later { All (λ t. t.read < version) batch.now }
     requires learnt { owners.now.last ≤ version }
-    requires kept { owners.now.floor ≤ horizon }
-    requires below { horizon < version }
+    requires kept { owners.now.floor ≤ min horizon version }
     ensures few { IfOk result (λ lists. length lists.items < 2 ^ 32) }
     ensures items { Answers result None (λ lists. (length lists.items ≡ resolvers_of owners.now)
-        × ((i : ℕ) → i < resolvers_of owners.now → (moves : List Stamped) → AgreesWith owners.now moves
+        × ((i : ℕ) → i < resolvers_of owners.now → (moves : List DatedMove) → AgreesWith owners.now moves
         → AreItems owners.now.splits (head_at version horizon moves) i 0 batch.now (items_at lists.items i))) }
 {
     let mut lists = no_items(alloc, owners.resolvers())?;
     for (place, txn) in batch.iter().enumerate() {
-        let spread = spread_txn(owners, version, horizon, txn)?;
+        let spread = spread_txn(alloc, owners, version, horizon, txn)?;
         hold_place(alloc, lists.as_mut_slice(), place as u32, spread)?;
     }
     Ok(lists)
@@ -277,9 +299,10 @@ fn parts_with(
 }
 
 /// The part of each resolver of the batch at the position, in the order of their numbers, by owners that have learnt
-/// the moves through the position's version and none after it, and have forgotten none from its horizon on. A resolver
-/// has an item for each transaction that it is asked about. The horizon and what each transaction read at lie below the
-/// version, and there are fewer than 2^32 transactions. Refused only as `NoMemory`.
+/// the moves through the position's version and none after it, and have forgotten none from its horizon on, nor from
+/// its version on where that is less. A resolver has an item for each transaction that it is asked about: nobody is
+/// asked about what was read where the horizon, or the transaction's read version, isn't below the position's version.
+/// There are fewer than 2^32 transactions. Refused only as `NoMemory`.
 ///
 /// The owners tell who owns a whole set of the batch, if one look finds it, else who owns each of its ranges. What they
 /// told is then gone through once, whoever it is for: in O(n + r) time for n of their parts and r resolvers, beside
@@ -291,11 +314,9 @@ pub fn parts_of(
     batch: &[Sealed],
 ) -> Result<Items<Part>, Refusal>
     requires few { length batch.now < 2 ^ 32 }
-    requires later { All (λ t. t.read < position.version) batch.now }
     requires learnt { owners.now.last ≤ position.version }
-    requires kept { owners.now.floor ≤ position.horizon }
-    requires below { position.horizon < position.version }
-    ensures { Answers result None (λ parts. (moves : List Stamped) → AgreesWith owners.now moves
+    requires kept { owners.now.floor ≤ min position.horizon position.version }
+    ensures { Answers result None (λ parts. (moves : List DatedMove) → AgreesWith owners.now moves
         → AreParts owners.now.splits moves position batch.now parts) }
 {
     let lists = items_of(alloc, owners, position.version, position.horizon, batch)?;

@@ -2,8 +2,7 @@
 ghost use Rattle.std.specs.Prelude.{◌≡◌, ◌<◌, ◌≤◌, ◌^◌, nat_le, List, ℕ, length, None, IfOk};
 ghost use Rattle.std.specs.List.{AllByRecursion, list_any};
 ghost use Rattle.fdb_keys.specs.Answers.{Answers};
-ghost use Rattle.fdb_txn.specs.book.Transactions.{Transaction};
-ghost use Rattle.fdb_txn.specs.book.Book.{Stamped};
+ghost use Rattle.fdb_txn.specs.book.Book.{DatedMove};
 ghost use Rattle.fdb_owners.specs.Ownership.{resolvers_of};
 ghost use Rattle.fdb_owners.specs.OwnersLaws.{AgreesWith};
 ghost use Rattle.fdb_sequencer.specs.TicketLaws.{AreRisingUpTo, GoToResolvers};
@@ -37,7 +36,7 @@ fn learn_all(owners: &mut Owners, dated: &[Dated], version: u64) -> Result<(), R
     requires above { AllByRecursion (λ one. owners.old.last < one.version) dated.now }
     requires targets { GoToResolvers (resolvers_of owners.old) dated.now }
     requires through { owners.old.last ≤ version }
-    ensures answers { Answers result None (λ _. (moves : List Stamped) → AgreesWith owners.old moves
+    ensures answers { Answers result None (λ _. (moves : List DatedMove) → AgreesWith owners.old moves
         → AgreesWith owners.new (moves_with dated.now moves)) }
     ensures splits { owners.new.splits ≡ owners.old.splits }
     ensures floor { owners.new.floor ≡ owners.old.floor }
@@ -57,7 +56,6 @@ pub(crate) fn resolve(
     batch: &[Sealed],
 ) -> Result<Resolving, Refusal>
     requires few { length batch.now < 2 ^ 32 }
-    requires later { AllByRecursion (λ (t : Transaction). t.read < ticket.now.version) batch.now }
     requires rising { AreRisingUpTo ticket.now.version ticket.now.moves }
     requires above { AllByRecursion (λ one. owners.old.last < one.version) ticket.now.moves }
     requires targets { GoToResolvers (resolvers_of owners.old) ticket.now.moves }

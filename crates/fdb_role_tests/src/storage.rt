@@ -76,6 +76,23 @@ pub fn peek_of_two(alloc: Global) -> Result<Peek, Refusal>
     peek_with(alloc, first, second)
 }
 
+// The set of a to 3, and l with a stamp that it waits for.
+fn waiting_body(alloc: Global) -> Result<Body, Refusal> {
+    let mut body = Items::new(alloc);
+    put(&mut body, 0, Mutation::set(alloc, b"a", b"3"))?;
+    put(&mut body, 2, Mutation::stamped(alloc, b"l", &[0; 10], 0))?;
+    Ok(body)
+}
+
+// The peek from 0 through 200 whose second message waits for a stamp.
+fn waiting_peek(alloc: Global) -> Result<Peek, Refusal>
+    ensures { IfOk result (λ peek. IsPeek peek) }
+{
+    let first = first_body(alloc)?;
+    let second = waiting_body(alloc)?;
+    peek_with(alloc, first, second)
+}
+
 fn empty_peek(alloc: Global, tag: u32, version: u64) -> Peek
     ensures { IsPeek result }
 {
@@ -89,6 +106,11 @@ fn empty_peek(alloc: Global, tag: u32, version: u64) -> Peek
 
 fn apply_two(shard: &mut Shard, alloc: Global) -> Result<(), Refusal> {
     let peek = peek_of_two(alloc)?;
+    shard.apply(&peek)
+}
+
+fn apply_waiting(shard: &mut Shard, alloc: Global) -> Result<(), Refusal> {
+    let peek = waiting_peek(alloc)?;
     shard.apply(&peek)
 }
 
@@ -193,6 +215,8 @@ fn kept(shard: &Shard, alloc: Global, key: &[u8]) -> Result<u64, Refusal> {
 enum Line {
     // It applies the two messages.
     ApplyTwo,
+    // It applies the first of them and one at 200 with a mutation that waits for a stamp.
+    ApplyWaiting,
     // It applies the messages at 100, 299 and 300.
     ApplySets,
     // It applies a peek without messages of the tag, through the version.
@@ -227,6 +251,7 @@ const NO: Answer = Ok(Some(0));
 fn answer(shard: &mut Shard, alloc: Global, line: Line) -> Answer {
     match line {
         Line::ApplyTwo => done(apply_two(shard, alloc)),
+        Line::ApplyWaiting => done(apply_waiting(shard, alloc)),
         Line::ApplySets => done(apply_sets(shard, alloc)),
         Line::ApplyNone(tag, version) => done(apply_none(shard, alloc, tag, version)),
         Line::Forget(version) => done(shard.forget(version)),
@@ -270,7 +295,7 @@ struct Case {
     lines: &'static [(Line, Answer)],
 }
 
-static CASES: [Case; 7] = [
+static CASES: [Case; 8] = [
     Case {
         what: "only the shard's own keys are read",
         range: (b"", b"m"),
@@ -296,6 +321,19 @@ static CASES: [Case; 7] = [
             (Line::ApplyNone(0, 200), DONE),
             (Line::ApplyNone(0, 200), DONE),
             (Line::HasFailed, NO),
+        ],
+    },
+    Case {
+        what: "messages that wait for a stamp are refused, also out of turn, and change nothing",
+        range: (b"", b"m"),
+        lines: &[
+            (Line::ApplyWaiting, Err(Refusal::BadOperand)),
+            (Line::Version, Ok(Some(0))),
+            (Line::HasFailed, NO),
+            (Line::ApplyTwo, DONE),
+            (Line::ApplyWaiting, Err(Refusal::BadOperand)),
+            (Line::Get(b"a", 200), Ok(Some(b'3' as u64))),
+            (Line::Get(b"l", 200), NO_VALUE),
         ],
     },
     Case {
@@ -481,6 +519,20 @@ fn peeks_are_replayed_through_what_they_cover(rt: HostRuntime) {
         Err(Refusal::NotYet(201)),
     ];
     same(&rt, found, wanted);
+}
+
+// The code of a replay of a peek that waits for a stamp, at a version that it covers and one that it doesn't.
+fn waiting_codes(alloc: Global) -> Result<[u32; 2], Refusal> {
+    let peeks = [waiting_peek(alloc)?];
+    let range = KeyRange::new(alloc, b"", b"m")?;
+    let covered = code_of(replay(alloc, &range, &peeks, 100));
+    let beyond = code_of(replay(alloc, &range, &peeks, 201));
+    Ok([covered, beyond])
+}
+
+#[test]
+fn peeks_that_wait_for_a_stamp_are_not_replayed(rt: HostRuntime) {
+    same(&rt, waiting_codes(rt.alloc()), Ok([9008, 9008]));
 }
 
 fn shards(alloc: Global, splits: Splits) -> Result<ShardMap, Refusal> {

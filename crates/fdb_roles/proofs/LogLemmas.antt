@@ -5,15 +5,18 @@ use Rattle.std.specs.Prelude.{◌==◌, ◌&&◌, not, nat_lt, if◌then◌else�
 use Rattle.std.specs.Ordering.{nat_cmp}
 use Rattle.std.specs.Cmp.Lexicographic.{slice_cmp}
 use Rattle.std.specs.FinMap.{get, get-empty}
+use Rattle.std.specs.Option.{option_or}
 use Rattle.std.proofs.lemmas.Bool.{cases_Bool, cases_lt, cond-false, eq-eqb, eqb-true, le-ltb, ltb-false}
 use Rattle.std.proofs.lemmas.List.Sums.{fold-append}
 use Rattle.fdb_keys.specs.Points.{Point}
 use Rattle.fdb_keys.specs.Ranges.{Range, in_range}
+use Rattle.fdb_keys.specs.declared.refusal.Refusal.{Refusal}
 use Rattle.fdb_keys.specs.declared.refusal.Refusal.TheVariants.{Failed, FutureVersion}
 use Rattle.fdb_mutations.specs.Maps.{Map}
 use Rattle.fdb_txn.specs.declared.entry.Entry.{Entry}
 use Rattle.fdb_txn.specs.declared.tag_msg.TagMsg.{TagMsg}
 use Rattle.fdb_txn.specs.book.Book.{Seen, add_entry, seen_of, last_version}
+use Rattle.fdb_txn.specs.Turn.{turn_fault}
 use Rattle.fdb_txn.specs.book.History.{AreEntries}
 use Rattle.fdb_txn.specs.laws.SerialMapLaws.{version_after}
 use Rattle.fdb_txn.specs.rules.Messages.{message_for, messages_for, messages_after, value_with}
@@ -26,6 +29,7 @@ use Rattle.fdb_log.specs.Messages.{log_of, above}
 use Rattle.fdb_log.specs.Peeks.{through_after}
 use Rattle.fdb_log.proofs.Exports.{above-above, above-higher}
 use Rattle.fdb_storage.specs.Shards.{Shard, apply_fault, forget_fault, IsNewShard, HasApplied, HasForgotten}
+use Rattle.fdb_storage.specs.StampedMessages.{stamped_fault}
 use Rattle.fdb_storage.proofs.Exports.{messages_above_a_version}
 use Rattle.fdb_proxy.specs.declared.config.Config.{Config}
 use Rattle.fdb_roles.specs.AtBook.{IsLogAt, IsShardAt}
@@ -80,12 +84,14 @@ module _ (config : Config) (book more : List Entry)
       ∙ through-messages config.resolver_splits range (seen_of book) (last_version book) (take limit more)
       ∙ sym (fold-append (λ (before : ℕ) (entry : Entry). entry.version) 0 book (take limit more))
 
--- a shard isn't refused a peek of its tag from its version
+-- a shard isn't refused a peek of its tag from its version, in which nothing waits for a stamp
 pub shard-may-apply : (config : Config) (book : List Entry) (s : ℕ) (old : Shard) (peek : Peek)
-    → IsShardAt config book s old → peek.tag ≡ s → peek.after ≡ old.version → apply_fault old peek ≡ None
-shard-may-apply config book s old peek at tag from =
+    → IsShardAt config book s old → peek.tag ≡ s → peek.after ≡ old.version → stamped_fault peek.messages ≡ None
+    → apply_fault old peek ≡ None
+shard-may-apply config book s old peek at tag from stamped =
     cond-false _ _ _ (ap not (eq-eqb peek.tag old.tag (tag ∙ sym at.tag)))
     ∙ cond-false _ _ _ at.works
+    ∙ ap (λ (fault : Option Refusal). option_or fault (turn_fault old.version peek.after)) stamped
     ∙ cond-false _ _ _ (le-ltb peek.after old.version (omega (arith, from)))
     ∙ cond-false _ _ _ (le-ltb old.version peek.after (omega (arith, from)))
 

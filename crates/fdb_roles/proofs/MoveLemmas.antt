@@ -7,7 +7,7 @@ use Rattle.std.proofs.lemmas.List.Sums.{fold-append, sum_by_push}
 use Rattle.fdb_keys.proofs.Exports.{all-append, all-weaken}
 use Rattle.fdb_txn.specs.declared.entry.Entry.{Entry}
 use Rattle.fdb_txn.specs.declared.entry.Move.{Move}
-use Rattle.fdb_txn.specs.book.Book.{Seen, Stamped, add_entry, add_moves, last_version, nothing, seen_of}
+use Rattle.fdb_txn.specs.book.Book.{Seen, DatedMove, add_entry, add_moves, last_version, nothing, seen_of}
 use Rattle.fdb_txn.specs.book.History.{AreEntries, HorizonsRise}
 use Rattle.fdb_txn.specs.laws.SerialMapLaws.{version_after}
 use Rattle.fdb_txn.proofs.Exports.{entries-split}
@@ -21,16 +21,16 @@ use Rattle.fdb_roles.specs.Entries.{dated_moves, moves_in}
 use Rattle.fdb_roles.proofs.BookLemmas.{last-above}
 
 -- the moves of one version, after older ones
-dated-with : (version : ℕ) (moves : List Move) (older : List Stamped)
+dated-with : (version : ℕ) (moves : List Move) (older : List DatedMove)
     → moves_with (dated version moves) older ≡ add_moves version moves older
 dated-with version [] older = refl
 dated-with version (move ∷ moves) older = refl
 
 -- moves that are learnt after others
-pub moves-append : (first more : List Dated) (older : List Stamped)
+pub moves-append : (first more : List Dated) (older : List DatedMove)
     → moves_with (first ++ more) older ≡ moves_with more (moves_with first older)
 moves-append first more older =
-    fold-append (λ (moves : List Stamped) (of : Dated). add_moves of.version of.moves moves) older first more
+    fold-append (λ (moves : List DatedMove) (of : Dated). add_moves of.version of.moves moves) older first more
 
 -- the moves of more entries come after those of the first ones
 pub dated_moves-append : (book more : List Entry)

@@ -1,18 +1,21 @@
 -- What the peeks of a tag tell of the run.
 use Rattle.std.proofs.Common.{◌≡◌, ◌∙◌, refl, sym, ap, subst, ⊎_elim, ℕ, suc, ◌+◌, ◌-◌, ◌≤◌, min, max, le_of_lt, List}
 use Rattle.std.proofs.Common.{[], ◌∷◌, ◌++◌, length, take, drop, append-nil, append_assoc, arith}
-use Rattle.std.specs.Prelude.{nat_le}
+use Rattle.std.specs.Prelude.{nat_le, nat_lt, Option, Some, None, if◌then◌else◌}
 use Rattle.std.specs.List.{AllByRecursion}
 use Rattle.std.specs.FinMap.{get}
-use Rattle.std.proofs.lemmas.Bool.{cases_lt, cond-true, le-leb}
+use Rattle.std.specs.Option.{option_or}
+use Rattle.std.proofs.lemmas.Bool.{cases_lt, cond-false, cond-true, le-leb, le-ltb}
 use Rattle.std.proofs.lemmas.List.Sums.{fold-append}
 use Rattle.std.proofs.Math.Seq.{take-add}
 use Rattle.fdb_keys.specs.Points.{Point}
 use Rattle.fdb_keys.specs.Ranges.{Range}
+use Rattle.fdb_keys.specs.declared.refusal.Refusal.{Refusal}
+use Rattle.fdb_keys.specs.declared.refusal.Refusal.TheVariants.{NotYet}
 use Rattle.fdb_mutations.specs.Maps.{Map}
 use Rattle.fdb_txn.specs.declared.entry.Entry.{Entry}
 use Rattle.fdb_txn.specs.declared.tag_msg.TagMsg.{TagMsg}
-use Rattle.fdb_txn.specs.book.Book.{last_version, seen_before}
+use Rattle.fdb_txn.specs.book.Book.{nothing, last_version, seen_before}
 use Rattle.fdb_txn.specs.book.History.{AreEntries}
 use Rattle.fdb_txn.specs.laws.SerialMapLaws.{version_after}
 use Rattle.fdb_txn.specs.rules.Messages.{messages_for, messages_after, value_in}
@@ -21,9 +24,10 @@ use Rattle.fdb_log.specs.declared.peek.Peek.{Peek}
 use Rattle.fdb_log.specs.Messages.{above}
 use Rattle.fdb_log.specs.Peeks.{through_after}
 use Rattle.fdb_log.proofs.Exports.{above-higher}
-use Rattle.fdb_storage.specs.Replays.{covered_from, messages_of}
-use Rattle.fdb_storage.proofs.Exports.{messages_above_a_version}
-use Rattle.fdb_roles.specs.Replays.{IsUnpopped, GoOnFrom, ReplaysTellTheRun}
+use Rattle.fdb_storage.specs.Replays.{covered, covered_from, messages_of}
+use Rattle.fdb_storage.specs.StampedMessages.{stamped_fault}
+use Rattle.fdb_storage.proofs.Exports.{messages_above_a_version, no_stamped_is_sent}
+use Rattle.fdb_roles.specs.Replays.{IsUnpopped, GoOnFrom, ReplaysTellTheRun, ReplaysAreNotRefused}
 use Rattle.fdb_roles.specs.Entries.{IsRising}
 use Rattle.fdb_roles.proofs.LogLemmas.{messages-take, through-messages}
 use Rattle.fdb_roles.proofs.TakenLemmas.{take-both}
@@ -129,3 +133,11 @@ replays_tell_the_run splits range book peeks entries all go_on v x reached insid
     (entries-take (suc (length splits)) 0 are.0 book entries) v x inside
     ∙ ap (λ (map : Map). get map x)
     (sym (serial-front splits book (entries-rising (suc (length splits)) book entries) are.0 v within))
+
+pub replays_are_not_refused : ReplaysAreNotRefused
+replays_are_not_refused splits range book peeks entries all go_on v reached =
+    let are = peeks-are splits range book entries 0 peeks all go_on in
+    ap (λ (fault : Option Refusal). option_or fault
+    (if nat_lt (covered peeks) v then Some (NotYet (suc (covered peeks))) else None))
+    (ap stamped_fault are.1 ∙ no_stamped_is_sent splits range nothing (take are.0 book))
+    ∙ cond-false (nat_lt (covered peeks) v) _ None (le-ltb (covered peeks) v reached)

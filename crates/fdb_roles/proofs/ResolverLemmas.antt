@@ -12,7 +12,8 @@ use Rattle.fdb_interval.specs.Versions.{version_at}
 use Rattle.fdb_txn.specs.declared.entry.Entry.{Entry}
 use Rattle.fdb_txn.specs.declared.entry.Move.{Move}
 use Rattle.fdb_txn.specs.book.Transactions.{Transaction, NamesWrites}
-use Rattle.fdb_txn.specs.book.Book.{Stamped, Head, Place, Seen, head_at, add_entry, seen_of, last_version, last_horizon}
+use Rattle.fdb_txn.specs.book.Book.{DatedMove, Head, Place, Seen, head_at, add_entry, seen_of, last_version}
+use Rattle.fdb_txn.specs.book.Book.{last_horizon}
 use Rattle.fdb_txn.specs.book.History.{IsHistory, AreEntries}
 use Rattle.fdb_txn.specs.rules.Admission.{has_points}
 use Rattle.fdb_txn.specs.rules.Resolvers.{AgreeFrom, IsStateOf}
@@ -78,7 +79,7 @@ module _ (splits : List Point) (head : Head) (i : ℕ) where
       are
 
 -- the same parts of the same batch
-pub same-parts : (splits : List Point) (moves : List Stamped) (position : Position) (batch given : List Transaction)
+pub same-parts : (splits : List Point) (moves : List DatedMove) (position : Position) (batch given : List Transaction)
     (parts sent : List Part) → given ≡ batch → sent ≡ parts → AreParts splits moves position given parts
     → AreParts splits moves position batch sent
 same-parts splits moves position batch given parts sent same_batch same_parts are =
@@ -86,7 +87,7 @@ same-parts splits moves position batch given parts sent same_batch same_parts ar
     (subst (λ (ts : List Transaction). AreParts splits moves position ts parts) same_batch are)
 
 -- what a resolver is sent of an entry is a part
-pub is-part : (splits : List Point) (moves : List Stamped) (position : Position) (batch : List Transaction) (i : ℕ)
+pub is-part : (splits : List Point) (moves : List DatedMove) (position : Position) (batch : List Transaction) (i : ℕ)
     (part : Part) → position.prev < position.version → IsPartOf splits moves position batch i part → IsPart part
 is-part splits moves position batch i part later of = record {
   later = let prev = of.prev in let version = of.version in omega (arith, later, prev, version);
@@ -95,7 +96,7 @@ is-part splits moves position batch i part later of = record {
 }
 
 -- what is sent of an entry are parts
-pub are-parts : (splits : List Point) (moves : List Stamped) (position : Position) (batch : List Transaction)
+pub are-parts : (splits : List Point) (moves : List DatedMove) (position : Position) (batch : List Transaction)
     (parts : List Part) → position.prev < position.version → AreParts splits moves position batch parts
     → All IsPart parts
 are-parts splits moves position batch parts later are k d within =

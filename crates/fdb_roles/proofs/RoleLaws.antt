@@ -33,6 +33,8 @@ use Rattle.fdb_log.specs.Logs.{Log, keeps, popped_through, push_fault, peek_faul
 use Rattle.fdb_log.specs.Messages.{above}
 use Rattle.fdb_storage.specs.LogMessages.{log_message}
 use Rattle.fdb_storage.specs.Shards.{Shard, apply_fault, HasApplied}
+use Rattle.fdb_storage.specs.StampedMessages.{stamped_fault}
+use Rattle.fdb_storage.proofs.Exports.{no_stamped_is_sent}
 use Rattle.fdb_proxy.specs.declared.config.Config.{Config}
 use Rattle.fdb_roles.specs.RoleLaws.{ResolverGoesOn, OwnersGoOn, SequencerGoesOn, EntriesGoOnByTickets, LogGoesOn}
 use Rattle.fdb_roles.specs.RoleLaws.{ShardGoesOn, ShardGoesOnByMessages, LogGivesMessages, ShardGoesOnByItsLog}
@@ -219,7 +221,9 @@ log_goes_on config book entry l old message entries at is = (
 
 pub shard_goes_on_by_messages : ShardGoesOnByMessages
 shard_goes_on_by_messages config book more s old peek entries at is = (
-  shard-may-apply config book s old peek at (ap (λ (p : Peek). p.tag) is) (ap (λ (p : Peek). p.after) is),
+  shard-may-apply config book s old peek at (ap (λ (p : Peek). p.tag) is) (ap (λ (p : Peek). p.after) is)
+      (ap (λ (p : Peek). stamped_fault p.messages) is
+      ∙ no_stamped_is_sent config.resolver_splits (piece config.shard_splits s) (seen_of book) more),
   λ new applied. shard-applied config book more entries s old new peek at (ap (λ (p : Peek). p.through) is)
       (ap (λ (p : Peek). p.messages) is) applied,
 )

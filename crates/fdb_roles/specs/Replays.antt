@@ -1,5 +1,5 @@
 -- What the peeks of a tag tell of the run.
-use Rattle.std.specs.Prelude.{◌≡◌, ◌≤◌, ⊤, ℕ, suc, true, List, [], ◌∷◌, take, length}
+use Rattle.std.specs.Prelude.{◌≡◌, ◌≤◌, ⊤, ℕ, suc, true, List, [], ◌∷◌, take, length, None}
 use Rattle.std.specs.List.{AllByRecursion}
 use Rattle.std.specs.FinMap.{get}
 use Rattle.fdb_keys.specs.Points.{Point}
@@ -12,7 +12,7 @@ use Rattle.fdb_txn.specs.rules.SerialMap.{serial_map_at}
 use Rattle.fdb_log.specs.declared.peek.Peek.{Peek}
 use Rattle.fdb_log.specs.Logs.{Log, kept, peek_of, popped_through}
 use Rattle.fdb_log.specs.Messages.{above}
-use Rattle.fdb_storage.specs.Replays.{covered, messages_of}
+use Rattle.fdb_storage.specs.Replays.{covered, messages_of, replay_fault}
 
 -- The peek is what a log gives of a tag that wasn't popped, by the first entries of the book that the log took.
 pub record IsUnpopped (splits : List Point) (range : Range) (book : List Entry) (peek : Peek) : Type 0 where
@@ -37,3 +37,10 @@ ReplaysTellTheRun =
     → AreEntries (suc (length splits)) 0 book → AllByRecursion (IsUnpopped splits range book) peeks → GoOnFrom 0 peeks
     → (v : ℕ) (x : Point) → v ≤ covered peeks → in_range range x ≡ true
     → value_in v x (messages_of peeks) ≡ get (serial_map_at splits v (seen_of book).places) x
+
+-- And none is refused there: nothing in their messages waits for a stamp.
+abbrev pub ReplaysAreNotRefused : Type 0
+ReplaysAreNotRefused =
+    (splits : List Point) (range : Range) (book : List Entry) (peeks : List Peek)
+    → AreEntries (suc (length splits)) 0 book → AllByRecursion (IsUnpopped splits range book) peeks → GoOnFrom 0 peeks
+    → (v : ℕ) → v ≤ covered peeks → replay_fault peeks v ≡ None

@@ -7,7 +7,7 @@ ghost use Rattle.fdb_roles.specs.ProxyLaws.{NewProxiesHaveNoEntry, RequestsComeA
 ghost use Rattle.fdb_roles.specs.ProxyLaws.{ProxiesHearVerdicts, ProxiesDecideByTheRule, MessagesAreOfTheEntry};
 ghost use Rattle.fdb_roles.specs.ProxyLaws.{ProxiesHearLogs, ProxiesAnswerByTheRule, AnswersAreByTheRule};
 ghost use Rattle.fdb_roles.specs.ProxyLaws.{BatchesAreOfTheLastEntry};
-ghost use Rattle.fdb_roles.specs.Replays.{ReplaysTellTheRun};
+ghost use Rattle.fdb_roles.specs.Replays.{ReplaysTellTheRun, ReplaysAreNotRefused};
 ghost use Rattle.fdb_roles.specs.RoleExamples.{OtherSequencersAreElsewhere, OtherLogsAreElsewhere};
 ghost use Rattle.fdb_roles.specs.RoleExamples.{OtherShardsAreElsewhere};
 ghost use Rattle.fdb_roles.specs.RoleLaws.{ResolverGoesOn, OwnersGoOn, SequencerGoesOn, LogGoesOn, ShardGoesOn};
@@ -18,9 +18,10 @@ ghost use Rattle.fdb_roles.specs.RoleStarts.{SequencerReports, SequencerMoves, S
 
 /// The peeks of a tag that wasn't popped tell the run: where they go on from version 0, the messages that they hold
 /// leave, at each point of the range of the tag's shard and each version that they cover, what stands there on the map
-/// of the run of one transaction at a time. So does `replay` of them.
+/// of the run of one transaction at a time. So does `replay` of them, which isn't refused at these versions.
 pub fn replays_of_unpopped_peeks_tell_the_run()
-    ensures { ReplaysTellTheRun }
+    ensures told { ReplaysTellTheRun }
+    ensures taken { ReplaysAreNotRefused }
 {}
 
 /// Of any book of sealed transactions: a transcript whose transaction is committed at a place, and each of whose

@@ -18,6 +18,8 @@ mod growths;
 #[cfg(test)]
 mod moves;
 #[cfg(test)]
+mod queue;
+#[cfg(test)]
 mod reads;
 #[cfg(test)]
 mod running;
@@ -25,6 +27,8 @@ mod running;
 mod sessions;
 #[cfg(test)]
 mod sizes;
+#[cfg(test)]
+mod stamps;
 #[cfg(test)]
 mod transfers;
 #[cfg(test)]

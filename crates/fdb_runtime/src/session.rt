@@ -1,5 +1,6 @@
-ghost use Rattle.std.specs.Prelude.{◌≡◌, ◌≤◌, true, [], suc, length, None, Some, Err, IfOk, IfErr, OnOk, OnErr};
-ghost use Rattle.fdb_keys.specs.declared.refusal.Refusal.TheVariants.{NoTransaction};
+ghost use Rattle.std.specs.Prelude.{◌≡◌, ◌≤◌, ◌⊎◌, true, [], suc, length, None, Some, Err, IfOk, IfErr, IfSome};
+ghost use Rattle.std.specs.Prelude.{OnOk, OnErr};
+ghost use Rattle.fdb_keys.specs.declared.refusal.Refusal.TheVariants.{NoTransaction, NoMemory, AccessedUnreadable};
 ghost use Rattle.fdb_book.specs.Fronts.{IsPrefix};
 ghost use Rattle.fdb_txn.specs.book.History.{IsBook};
 ghost use Rattle.fdb_keys.specs.Answers.{Answers};
@@ -10,7 +11,10 @@ ghost use Rattle.fdb_client.specs.declared.program.Op.TheVariants as operation;
 ghost use Rattle.fdb_client.specs.declared.program.Reply.TheVariants as answer;
 ghost use Rattle.fdb_roles.specs.Sessions.{OfOpen};
 ghost use Rattle.fdb_sections.specs.Commits.{CommitAnswers};
-ghost use Rattle.fdb_sections.specs.Reading.{HasRead};
+ghost use Rattle.fdb_client.specs.Programs.{program};
+ghost use Rattle.fdb_client.specs.Unreadable.{unreadable};
+ghost use Rattle.fdb_sections.specs.Reading.{HasRead, RefusesUnreadable, TellsUnreadable, scans_unreadable};
+ghost use Rattle.fdb_sections.specs.ShardViews.{run_of};
 ghost use Rattle.fdb_sections.specs.Refusals.{is_of_begin, is_of_read};
 ghost use Rattle.fdb_sections.specs.Sessions.{learning, with_current};
 
@@ -43,10 +47,40 @@ fn begin_refusal(why: Refusal) -> Refusal
 fn read_refusal(why: Refusal) -> Refusal
     ensures listed { is_of_read result ≡ true }
     ensures open { result ≡ NoTransaction → ⊥ }
+    ensures hidden { why ≡ AccessedUnreadable ⊎ why ≡ NoMemory → result ≡ why }
+    ensures told { result ≡ AccessedUnreadable → why ≡ AccessedUnreadable }
+{
+    match why {
+        Refusal::AccessedUnreadable => why,
+        _ => shard_refusal(why),
+    }
+}
+
+// And what it is told where a shard refuses it: no shard knows of unreadable keys.
+fn shard_refusal(why: Refusal) -> Refusal
+    ensures listed { is_of_read result ≡ true }
+    ensures open { result ≡ NoTransaction → ⊥ }
+    ensures memory { why ≡ NoMemory → result ≡ why }
+    ensures readable { result ≡ AccessedUnreadable → ⊥ }
 {
     match why {
         Refusal::TransactionTooOld | Refusal::NoMemory | Refusal::Closed => why,
         _ => Refusal::Failed,
+    }
+}
+
+// And what it is told where a read of a range of the shards is refused: they refuse all as if memory had run out.
+fn range_refusal<B: ClusterName, R: Wait>(
+    shards: &SharedShards<'_, B, R>,
+    range: &KeyRange,
+    why: Refusal,
+) -> Refusal
+    ensures hidden { why ≡ AccessedUnreadable → result ≡ why }
+    ensures told { result ≡ AccessedUnreadable → why ≡ AccessedUnreadable }
+{
+    match why {
+        Refusal::NoMemory => shard_refusal(shards.why_unread(range)),
+        _ => why,
     }
 }
 
@@ -205,10 +239,12 @@ impl<B: ClusterName> Session<B> {
     /// the book, at the transaction's read version. It is noted in the transcript. A snapshot read conflicts with
     /// nobody, and is promised nothing else. It waits for the key's shard, unless the own writes decide the key.
     ///
-    /// Refused as `NoTransaction` exactly where none is open; else as `TransactionTooOld` where the shard doesn't serve
-    /// the version any more, as `Closed` once the database is closed, as `Failed`, and as `NoMemory`, and as nothing
-    /// else. Then nothing changes. It takes the time of one `Shard::get` under the shard's lock, and of a share of a
-    /// front.
+    /// Refused as `NoTransaction` exactly where none is open; as `AccessedUnreadable` exactly where its own writes
+    /// leave the key unreadable, since a stamp that is known at the commit alone stands there, and then no shard is
+    /// asked; else as `TransactionTooOld` where the shard doesn't serve the version any more, as `Closed` once the
+    /// database is closed, as `Failed`, and as `NoMemory`, which may come before any of the others but the first, and
+    /// as nothing else. Then nothing changes. It takes the time of one `Shard::get` under the shard's lock, and of a
+    /// share of a front.
     pub fn get<R: Wait>(
         &mut self,
         rt: &R,
@@ -218,6 +254,10 @@ impl<B: ClusterName> Session<B> {
     ) -> Result<Option<Bytes>, Refusal>
         ensures answered { IfOk result (λ value. HasRead B.config.resolver_splits self.old
             (operation.Get key.now is_snapshot) (answer.Value value) self.new) }
+        ensures hidden { IfSome self.old.current (λ transcript.
+            RefusesUnreadable result (unreadable (program transcript.ops) key.now)) }
+        ensures told { IfSome self.old.current (λ transcript.
+            TellsUnreadable result (unreadable (program transcript.ops) key.now)) }
         ensures none { self.old.current ≡ None → result ≡ Err NoTransaction }
         ensures open { IfErr result (λ why. why ≡ NoTransaction → self.old.current ≡ None) }
         ensures refusals { IfErr result (λ why. is_of_read why ≡ true) }
@@ -243,6 +283,10 @@ impl<B: ClusterName> Session<B> {
     ) -> Result<Option<Bytes>, Refusal>
         ensures answered { IfOk result (λ value. HasRead B.config.resolver_splits self.old
             (operation.Get key.now is_snapshot) (answer.Value value) self.new) }
+        ensures hidden { IfSome self.old.current (λ transcript.
+            RefusesUnreadable result (unreadable (program transcript.ops) key.now)) }
+        ensures told { IfSome self.old.current (λ transcript.
+            TellsUnreadable result (unreadable (program transcript.ops) key.now)) }
         ensures refused { OnErr result (self.new ≡ self.old) }
     {
         if self.client.decides(key) {
@@ -251,8 +295,10 @@ impl<B: ClusterName> Session<B> {
         let Some(shard) = self.shared.shard(self.shared.tag_of(key)) else {
             return Err(Refusal::Failed);
         };
-        let held = shard.at_version(rt, version)?;
-        self.client.get_at(&held.at, key, is_snapshot)
+        match shard.at_version(rt, version) {
+            Ok(held) => self.client.get_at(&held.at, key, is_snapshot),
+            Err(why) => Err(shard_refusal(why)),
+        }
     }
 
     /// The pairs of the range after the open transaction's own writes, the first `limit` of them in key order, from the
@@ -261,11 +307,15 @@ impl<B: ClusterName> Session<B> {
     /// than 256 pairs, and waits for each of the shards that a page looks at. It holds the lock of one shard at a time,
     /// while that gives its part of one page, and none between two pages.
     ///
-    /// Refused as `get` is; then nothing changes. Each shard is asked for no more than the limit still needs, in the
-    /// order in which the pairs are given, and asked again as often as it has more than a page, or the own writes hide
-    /// what it gave. Each asking takes O(log s) comparisons for s shards, O(log n) for the n keys of the shard, and
-    /// O(log v) for the v versions of each pair that it gives, of one more, and of each key between them at which
-    /// nothing stands. Where it is refused, it asks each shard that the range meets once more whether it serves the
+    /// Refused as `get` is, but as `AccessedUnreadable` only where what it scanned has a key that its own writes leave
+    /// unreadable, which counts as a pair that is there. Such a read is never answered, but what the shards refuse and
+    /// `NoMemory` may come before. Then nothing changes.
+    ///
+    /// Each shard is asked for no more than the limit still needs, in the order in which the pairs are given, and asked
+    /// again as often as it has more than a page, or the own writes hide what it gave. Each asking takes O(log s)
+    /// comparisons for s shards, O(log n) for the n keys of the shard, and O(log v) for the v versions of each pair
+    /// that it gives, of one more, and of each key between them at which nothing stands. Where it is refused for
+    /// another reason than an unreadable key, it asks each shard that the range meets once more whether it serves the
     /// version.
     pub fn get_range<R: Wait>(
         &mut self,
@@ -278,6 +328,9 @@ impl<B: ClusterName> Session<B> {
     ) -> Result<Items<(Key, Bytes)>, Refusal>
         ensures answered { IfOk result (λ pairs. HasRead B.config.resolver_splits self.old
             (operation.Range range.now limit reverse is_snapshot) (answer.Pairs pairs) self.new) }
+        ensures told { IfSome self.old.current (λ transcript.
+            TellsUnreadable result (scans_unreadable (run_of B.config transcript.read_version self.old.front)
+            (program transcript.ops) range.now limit reverse)) }
         ensures none { self.old.current ≡ None → result ≡ Err NoTransaction }
         ensures open { IfErr result (λ why. why ≡ NoTransaction → self.old.current ≡ None) }
         ensures refusals { IfErr result (λ why. is_of_read why ≡ true) }
@@ -304,6 +357,9 @@ impl<B: ClusterName> Session<B> {
     ) -> Result<Items<(Key, Bytes)>, Refusal>
         ensures answered { IfOk result (λ pairs. HasRead B.config.resolver_splits self.old
             (operation.Range range.now limit reverse is_snapshot) (answer.Pairs pairs) self.new) }
+        ensures told { IfSome self.old.current (λ transcript.
+            TellsUnreadable result (scans_unreadable (run_of B.config transcript.read_version self.old.front)
+            (program transcript.ops) range.now limit reverse)) }
         ensures refused { OnErr result (self.new ≡ self.old) }
     {
         let (version, front) = self.client.share_open()?;
@@ -313,9 +369,7 @@ impl<B: ClusterName> Session<B> {
             .get_range_on(&shards, range, limit, reverse, is_snapshot)
         {
             Ok(pairs) => Ok(pairs),
-            // The shards refuse all as if memory had run out.
-            Err(Refusal::NoMemory) => Err(shards.why_unread(range)),
-            Err(why) => Err(why),
+            Err(why) => Err(range_refusal(&shards, range, why)),
         }
     }
 

@@ -21,7 +21,8 @@ use Rattle.fdb_proxy.specs.declared.config.Config.{Config}
 use Rattle.fdb_roles.specs.AtBook.{IsShardAt}
 use Rattle.fdb_roles.proofs.Exports.{given-fault, gives, shard_goes_on_by_its_log, shard_starts}
 use Rattle.fdb_sections.specs.Messages.{PeekAtFront, IsGivenAt}
-use Rattle.fdb_sections.specs.ShardsAtFronts.{ShardAtFront, IsThere, HasGoneOn, peek_fault, front_through}
+use Rattle.fdb_sections.specs.ShardsAtFronts.{ShardAtFront, IsThere, HasGoneOn, next_fault, peek_fault}
+use Rattle.fdb_sections.specs.ShardsAtFronts.{front_through}
 
 -- a new shard of its piece is there
 pub starts : (config : Config) (tag : ℕ) (range : Range) (new : Shard) → tag < suc (length config.shard_splits)
@@ -58,7 +59,7 @@ in-turn last prev none = by_tests (nat_lt prev last) (nat_lt last prev) refl ref
 abbrev Fits : Shard → Peek → Type 0
 Fits shard peek = (peek.tag ≡ shard.tag) × (shard.is_failed ≡ false) × (peek.after ≡ shard.version)
 
-fits : (shard : Shard) (peek : Peek) → apply_fault shard peek ≡ None → Fits shard peek
+fits : (shard : Shard) (peek : Peek) → next_fault shard peek ≡ None → Fits shard peek
 fits shard peek none = by_tests (peek.tag == shard.tag) shard.is_failed refl refl none
   where
     by_tests : (own failed : Bool) → (peek.tag == shard.tag) ≡ own → shard.is_failed ≡ failed
@@ -70,13 +71,13 @@ fits shard peek none = by_tests (peek.tag == shard.tag) shard.is_failed refl ref
     by_tests true true is fails none = cc
     by_tests false failed is also none = cc
 
--- what isn't refused at the front isn't refused by the state
-state-fault : (at : ShardAtFront) (given : PeekAtFront) → peek_fault at given ≡ None
-    → apply_fault at.shard given.peek ≡ None
-state-fault at given none = by_test (nat_lt (length given.front) (length at.front)) none
+-- what isn't refused at the front is the next one
+is-next : (at : ShardAtFront) (given : PeekAtFront) → peek_fault at given ≡ None
+    → next_fault at.shard given.peek ≡ None
+is-next at given none = by_test (nat_lt (length given.front) (length at.front)) none
   where
-    by_test : (shorter : Bool) → (if shorter then Some Stale else apply_fault at.shard given.peek) ≡ None
-        → apply_fault at.shard given.peek ≡ None
+    by_test : (shorter : Bool) → (if shorter then Some Stale else next_fault at.shard given.peek) ≡ None
+        → next_fault at.shard given.peek ≡ None
     by_test true none = cc
     by_test false none = none
 
@@ -118,12 +119,9 @@ takes config at own given sent is also there gave entries answers =
     }
 
 module _ (config : Config) (at : ShardAtFront) (given : PeekAtFront) (takes : Takes config at given) where
-  pub state-takes : apply_fault at.shard given.peek ≡ None
-  state-takes = state-fault at given takes.none
-
   applies : Applies config at.front given.front at.shard given.peek
   applies =
-      let mine = fits at.shard given.peek state-takes in
+      let mine = fits at.shard given.peek (is-next at given takes.none) in
       let is = takes.is in
       let same : given.peek ≡ peek_of is.log at.shard.tag at.shard.version is.limit =
       is.gives ∙ ap₂ (λ (tag after : ℕ). peek_of is.log tag after is.limit) mine.0 mine.2 in
@@ -132,6 +130,9 @@ module _ (config : Config) (at : ShardAtFront) (given : PeekAtFront) (takes : Ta
       subst (Applies config at.front given.front at.shard) (sym same)
       (shard_goes_on_by_its_log config at.front given.front at.shard.tag is.number is.limit at.shard is.log
       takes.begins takes.entries (takes.there.1 mine.1) is.at may)
+
+  pub state-takes : apply_fault at.shard given.peek ≡ None
+  state-takes = applies.0
 
   pub count : length (front_through at given) ≡ length at.front + length given.peek.messages
   count = applies.1

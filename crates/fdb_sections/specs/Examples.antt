@@ -1,5 +1,5 @@
 -- What sessions come to and are told, computed.
-use Rattle.std.specs.Prelude.{◌≡◌, ℕ, true, false, List, [], ◌∷◌, Option, Some, None, Result, Err}
+use Rattle.std.specs.Prelude.{◌≡◌, ℕ, true, false, List, [], ◌∷◌, Option, Some, None, Result, Ok, Err}
 use Rattle.fdb_keys.specs.declared.refusal.Refusal.{Refusal}
 use Rattle.fdb_keys.specs.declared.refusal.Refusal.TheVariants as refusal
 use Rattle.fdb_keys.specs.declared.refusal.Refused.{Refused}
@@ -10,7 +10,9 @@ use Rattle.fdb_client.specs.Programs.{commit_request_of}
 use Rattle.fdb_client.specs.declared.program.Transcript.{Transcript}
 use Rattle.fdb_roles.specs.SmallBooks.{does_nothing, plain, reads_and_sets, set_and_cleared, two_in_one_entry}
 use Rattle.fdb_sections.specs.Commits.{IsByFull, IsByReason, Tells, plain_reason}
+use Rattle.fdb_sections.specs.Reading.{RefusedBy, RefusesUnreadable, TellsUnreadable, own_writes_decide}
 use Rattle.fdb_sections.specs.Receipts.{GrantAtFront, IsTurnedDown, ReceiptAtFront}
+use Rattle.fdb_sections.specs.Refusals.{is_of_begin, is_of_read}
 use Rattle.fdb_sections.specs.Sessions.{Session, begin_fault, beginning, learning}
 use Rattle.fdb_sections.specs.Waiting.{ended_by, reach_fault}
 
@@ -154,3 +156,35 @@ WorkedEndings =
     × (reach_fault (Some refusal.Failed) 100 100 ≡ None)
     × (reach_fault (Some refusal.Failed) 100 101 ≡ Some refusal.Failed)
     × (reach_fault None 100 101 ≡ None)
+
+-- What a read is told of an unreadable key. One that isn't answered for another reason tells nothing of the key, but a
+-- get of an unreadable key is refused for no other reason than memory.
+abbrev pub WorkedUnreadable : Type 0
+WorkedUnreadable =
+    TellsUnreadable {T = ℕ} (Ok 7) false
+    × (TellsUnreadable {T = ℕ} (Ok 7) true → ⊥)
+    × TellsUnreadable {T = ℕ} (Err refusal.AccessedUnreadable) true
+    × (TellsUnreadable {T = ℕ} (Err refusal.AccessedUnreadable) false → ⊥)
+    × TellsUnreadable {T = ℕ} (Err refusal.TransactionTooOld) true
+    × TellsUnreadable {T = ℕ} (Err refusal.TransactionTooOld) false
+    × RefusesUnreadable {T = ℕ} (Err refusal.AccessedUnreadable) true
+    × RefusesUnreadable {T = ℕ} (Err refusal.NoMemory) true
+    × (RefusesUnreadable {T = ℕ} (Err refusal.TransactionTooOld) true → ⊥)
+    × RefusesUnreadable {T = ℕ} (Err refusal.TransactionTooOld) false
+    × (RefusesUnreadable {T = ℕ} (Err refusal.Failed) true → ⊥)
+    × (is_of_read refusal.AccessedUnreadable ≡ true)
+    × (is_of_read refusal.FutureVersion ≡ false)
+    × (is_of_begin refusal.AccessedUnreadable ≡ false)
+
+-- What a call is refused by: its fault, unless memory ran out first, and nothing else. No key is decided where no
+-- transaction is open.
+abbrev pub WorkedRefusals : Type 0
+WorkedRefusals =
+    RefusedBy {T = ℕ} (Ok 7) None
+    × (RefusedBy {T = ℕ} (Ok 7) (Some refusal.AccessedUnreadable) → ⊥)
+    × RefusedBy {T = ℕ} (Err refusal.AccessedUnreadable) (Some refusal.AccessedUnreadable)
+    × RefusedBy {T = ℕ} (Err refusal.NoMemory) (Some refusal.AccessedUnreadable)
+    × RefusedBy {T = ℕ} (Err refusal.NoMemory) None
+    × (RefusedBy {T = ℕ} (Err refusal.AccessedUnreadable) None → ⊥)
+    × (RefusedBy {T = ℕ} (Err refusal.TransactionTooOld) (Some refusal.AccessedUnreadable) → ⊥)
+    × (own_writes_decide None (1 ∷ []) ≡ false)

@@ -11,9 +11,10 @@ is_of_begin refusal.Exhausted = true
 is_of_begin refusal.Closed = true
 is_of_begin why = false
 
--- of one that reads: the version isn't served any more, memory ran out, a role failed, the database is closed, or no
--- transaction is open
+-- of one that reads: what it reads is known only once it commits, the version isn't served any more, memory ran out, a
+-- role failed, the database is closed, or no transaction is open
 abbrev pub is_of_read : Refusal → Bool
+is_of_read refusal.AccessedUnreadable = true
 is_of_read refusal.TransactionTooOld = true
 is_of_read refusal.NoMemory = true
 is_of_read refusal.Failed = true

@@ -1,9 +1,12 @@
 -- Shards of running threads: each is its state with the front of the book that it has applied.
-use Rattle.std.specs.Prelude.{◌≡◌, ◌+◌, ◌<◌, suc, nat_lt, false, List, length, take, Option, Some, None, if◌then◌else◌}
+use Rattle.std.specs.Prelude.{◌≡◌, ◌==◌, ◌+◌, ◌<◌, suc, nat_lt, not, false, List, length, take, Option, Some, None}
+use Rattle.std.specs.Prelude.{if◌then◌else◌}
 use Rattle.fdb_keys.specs.declared.refusal.Refusal.{Refusal}
-use Rattle.fdb_keys.specs.declared.refusal.Refusal.TheVariants.{Stale}
+use Rattle.fdb_keys.specs.declared.refusal.Refusal.TheVariants.{Failed, Stale, Unknown}
 use Rattle.fdb_txn.specs.declared.entry.Entry.{Entry}
-use Rattle.fdb_storage.specs.Shards.{Shard, apply_fault, HasApplied}
+use Rattle.fdb_txn.specs.Turn.{turn_fault}
+use Rattle.fdb_log.specs.declared.peek.Peek.{Peek}
+use Rattle.fdb_storage.specs.Shards.{Shard, HasApplied}
 use Rattle.fdb_proxy.specs.declared.config.Config.{Config}
 use Rattle.fdb_roles.specs.AtBook.{IsShardAt}
 use Rattle.fdb_sections.specs.Messages.{PeekAtFront}
@@ -22,10 +25,17 @@ IsThere config at =
 abbrev pub shorter_fault : List Entry → List Entry → Option Refusal
 shorter_fault own theirs = if nat_lt (length theirs) (length own) then Some Stale else None
 
--- why it refuses a peek: the log that gave it took less than the shard applied, or else the state refuses it
+-- why a peek of a log isn't the shard's next one. The state refuses it for nothing else: what logs are sent waits for
+-- no stamp.
+abbrev pub next_fault : Shard → Peek → Option Refusal
+next_fault shard peek =
+    if not (peek.tag == shard.tag) then Some Unknown
+    else (if shard.is_failed then Some Failed else turn_fault shard.version peek.after)
+
+-- why it refuses a peek: the log that gave it took less than the shard applied, or else it isn't the next one
 abbrev pub peek_fault : ShardAtFront → PeekAtFront → Option Refusal
 peek_fault at given =
-    if nat_lt (length given.front) (length at.front) then Some Stale else apply_fault at.shard given.peek
+    if nat_lt (length given.front) (length at.front) then Some Stale else next_fault at.shard given.peek
 
 -- the log's front, cut to as many entries more than the shard's as there are messages
 abbrev pub front_through : ShardAtFront → PeekAtFront → List Entry

@@ -10,7 +10,8 @@ ghost use Rattle.fdb_txn.specs.book.Book.{last_version};
 ghost use Rattle.fdb_txn.specs.book.History.{IsBook};
 ghost use Rattle.fdb_book.specs.Fronts.{IsPrefix};
 ghost use Rattle.fdb_storage.specs.Shards.{key_fault};
-ghost use Rattle.fdb_client.specs.Programs.{program, decided};
+ghost use Rattle.fdb_client.specs.Programs.{program};
+ghost use Rattle.fdb_client.specs.Unreadable.{get_fault, range_read_fault};
 ghost use Rattle.fdb_client.specs.TxnState.{with_op};
 ghost use Rattle.fdb_client.specs.declared.program.Op.TheVariants as operation;
 ghost use Rattle.fdb_client.specs.declared.program.Reply.TheVariants as answer;
@@ -204,8 +205,9 @@ impl<B: ClusterName> Client<B> {
 
     /// The value of the key after the open transaction's own writes, on the serial map of the session's front at the
     /// read version, noted with the operation. The shard is asked where the own writes don't decide the key. Refused as
-    /// `NoTransaction` where none is open, as `NoMemory`, and, where the shard is asked, as the shard refuses a read of
-    /// the key at that version; then nothing changes. It takes what `Txn::get` takes, and a read of the shard.
+    /// `NoTransaction` where none is open, as `NoMemory`, as `AccessedUnreadable` where the own writes leave the key
+    /// unreadable, and, where the shard is asked, as the shard refuses a read of the key at that version; then nothing
+    /// changes. It takes what `Txn::get` takes, and a read of the shard.
     pub fn get_at(
         &mut self,
         at: &ShardAt<B>,
@@ -216,8 +218,8 @@ impl<B: ClusterName> Client<B> {
             (operation.Get key.now is_snapshot) (answer.Value value) self.new.session) }
         ensures none { self.old.session.current ≡ None → result ≡ Err NoTransaction }
         ensures fault { IfSome self.old.session.current (λ transcript. RefusedBy result
-            (if decided (program transcript.ops) key.now then None
-            else key_fault at.now.shard key.now transcript.read_version)) }
+            (get_fault (program transcript.ops) key.now
+            (key_fault at.now.shard key.now transcript.read_version))) }
         ensures submitted { self.new.submitted ≡ self.old.submitted }
         ensures refused { OnErr result (self.new ≡ self.old) }
     {
@@ -225,8 +227,9 @@ impl<B: ClusterName> Client<B> {
     }
 
     /// The value of the key that the open transaction's own writes decide, which no shard is asked for, noted with the
-    /// operation. Refused as `NoTransaction` where none is open, as `NoMemory`, and as `KeyOutsideLegalRange` where its
-    /// writes don't decide the key; then nothing changes. It takes what `Txn::get` takes.
+    /// operation. Refused as `NoTransaction` where none is open, as `NoMemory`, as `AccessedUnreadable` where its
+    /// writes leave the key unreadable, and as `KeyOutsideLegalRange` where they don't decide it; then nothing changes.
+    /// It takes what `Txn::get` takes.
     pub fn get_decided(
         &mut self,
         alloc: Global,
@@ -237,7 +240,7 @@ impl<B: ClusterName> Client<B> {
             (operation.Get key.now is_snapshot) (answer.Value value) self.new.session) }
         ensures none { self.old.session.current ≡ None → result ≡ Err NoTransaction }
         ensures fault { IfSome self.old.session.current (λ transcript. RefusedBy result
-            (if decided (program transcript.ops) key.now then None else Some KeyOutsideLegalRange)) }
+            (get_fault (program transcript.ops) key.now (Some KeyOutsideLegalRange))) }
         ensures submitted { self.new.submitted ≡ self.old.submitted }
         ensures refused { OnErr result (self.new ≡ self.old) }
     {
@@ -246,9 +249,9 @@ impl<B: ClusterName> Client<B> {
 
     /// The pairs of the range after the open transaction's own writes, on the serial map of the session's front at the
     /// read version, as `Txn::get_range` gives them, noted with the operation. The shards are asked one after another.
-    /// Refused as `NoTransaction` where none is open, as `NoMemory`, and as `LentShards::new` refuses to lend the
-    /// shards for the range at that version; then nothing changes. It takes what `Txn::get_range` takes, with pages of
-    /// the shards.
+    /// Refused as `NoTransaction` where none is open, as `NoMemory`, as `LentShards::new` refuses to lend the shards
+    /// for the range at that version, and else as `AccessedUnreadable` where what it scanned has a key that the own
+    /// writes leave unreadable; then nothing changes. It takes what `Txn::get_range` takes, with pages of the shards.
     pub fn get_range_at(
         &mut self,
         alloc: Global,
@@ -262,7 +265,9 @@ impl<B: ClusterName> Client<B> {
             (operation.Range range.now limit reverse is_snapshot) (answer.Pairs pairs) self.new.session) }
         ensures none { self.old.session.current ≡ None → result ≡ Err NoTransaction }
         ensures fault { IfSome self.old.session.current (λ transcript. RefusedBy result
-            (lending_fault transcript.read_version range.now (lent_shards shards.now))) }
+            (range_read_fault (run_of B.config transcript.read_version self.old.session.front)
+            (program transcript.ops) range.now limit reverse
+            (lending_fault transcript.read_version range.now (lent_shards shards.now)))) }
         ensures submitted { self.new.submitted ≡ self.old.submitted }
         ensures refused { OnErr result (self.new ≡ self.old) }
     {
@@ -299,7 +304,8 @@ impl<B: ClusterName> Client<B> {
             (operation.Range range.now limit reverse is_snapshot) (answer.Pairs pairs) self.new.session) }
         ensures none { self.old.session.current ≡ None → result ≡ Err NoTransaction }
         ensures fault { IfSome self.old.session.current
-            (λ transcript. RefusedBy result (S.range_fault snapshot.now range.now)) }
+            (λ transcript. RefusedBy result (range_read_fault (S.map snapshot.now) (program transcript.ops) range.now
+            limit reverse (S.range_fault snapshot.now range.now))) }
         ensures submitted { self.new.submitted ≡ self.old.submitted }
         ensures refused { OnErr result (self.new ≡ self.old) }
     {

@@ -1,10 +1,11 @@
 //! What sessions come to and are told, for the reader of their definitions.
 ghost use Rattle.fdb_sections.specs.Examples.{WorkedEndings, WorkedFullBooks, WorkedPlaces, WorkedReasons};
-ghost use Rattle.fdb_sections.specs.Examples.{WorkedSessions, WorkedTurnedDown, WorkedUntaken};
+ghost use Rattle.fdb_sections.specs.Examples.{WorkedRefusals};
+ghost use Rattle.fdb_sections.specs.Examples.{WorkedSessions, WorkedTurnedDown, WorkedUnreadable, WorkedUntaken};
 
 /// What a session comes to that begins and learns, which transactions are turned down, why a session is refused,
-/// when its transaction is open again, when it is told that the book is full, and why a shard's thread ended, by
-/// examples.
+/// when its transaction is open again, when it is told that the book is full, why a shard's thread ended, what a read
+/// is told of an unreadable key, and what calls are refused by, by examples.
 pub fn worked_examples()
     ensures sessions { WorkedSessions }
     ensures turned_down { WorkedTurnedDown }
@@ -13,4 +14,6 @@ pub fn worked_examples()
     ensures full_books { WorkedFullBooks }
     ensures places { WorkedPlaces }
     ensures endings { WorkedEndings }
+    ensures unreadable { WorkedUnreadable }
+    ensures refusals { WorkedRefusals }
 {}

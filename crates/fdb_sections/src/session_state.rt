@@ -1,4 +1,4 @@
-ghost use Rattle.std.specs.Prelude.{◌≡◌, ◌≤◌, ◌⊎◌, max, [], None, Some, IfOk, IfErr, IfSome, IfNone, OnOk, OnErr};
+ghost use Rattle.std.specs.Prelude.{◌≡◌, ◌≤◌, ◌⊎◌, ⊤, max, [], None, Some, IfOk, IfErr, IfSome, IfNone, OnOk, OnErr};
 ghost use Rattle.fdb_keys.specs.declared.refusal.Refusal.TheVariants.{Exhausted, NoMemory};
 ghost use Rattle.std.specs.Option.{option_map};
 ghost use Rattle.fdb_keys.specs.Answers.{Answers};
@@ -6,7 +6,9 @@ ghost use Rattle.std.specs.FinMap.{get};
 ghost use Rattle.std.specs.Prelude.{if◌then◌else◌};
 ghost use Rattle.fdb_txn.specs.book.Book.{seen_of};
 ghost use Rattle.fdb_txn.specs.rules.SerialMap.{serial_map_at};
-ghost use Rattle.fdb_client.specs.Programs.{program, copy, decided};
+ghost use Rattle.fdb_client.specs.Programs.{program, copy};
+ghost use Rattle.fdb_client.specs.Unreadable.{get_fault, scan_fault, unless_out};
+ghost use Rattle.std.specs.Option.{option_or};
 ghost use Rattle.fdb_mutations.specs.Mutations.{mutation_fault};
 ghost use Rattle.fdb_mutations.specs.PairLaws.{given_of};
 ghost use Rattle.fdb_txn.specs.book.Book.{last_version};
@@ -37,6 +39,28 @@ mod ending;
 mod reading;
 pub(crate) mod settling;
 pub(crate) mod submitted;
+
+// The pairs of the range after the transaction's own writes, as `Txn::get_range` gives them. What is given is said
+// apart from why it is refused, so that callers need not look at the reasons.
+fn range_of<S: Snapshot>(
+    txn: &mut Txn,
+    snapshot: &S,
+    range: &KeyRange,
+    limit: u32,
+    reverse: bool,
+    is_snapshot: bool,
+) -> Result<Items<(Key, Bytes)>, Refusal>
+    requires { S.at snapshot.now ≡ txn.old.read_version }
+    ensures given { IfOk result (λ pairs.
+        (pairs ≡ given_of (copy (S.map snapshot.now) (program txn.old.ops)) range.now limit reverse)
+        × (txn.new ≡ with_op txn.old (operation.Range range.now limit reverse is_snapshot) (answer.Pairs pairs))) }
+    ensures fault { Answers result (option_or (S.range_fault snapshot.now range.now) (unless_out result
+        (scan_fault (copy (S.map snapshot.now) (program txn.old.ops)) (program txn.old.ops) range.now limit
+        reverse))) (λ _. ⊤) }
+    ensures refused { OnErr result (txn.new ≡ txn.old) }
+{
+    txn.get_range(snapshot, range, limit, reverse, is_snapshot)
+}
 
 // The longer of two fronts, once more. Refused only as `NoMemory`.
 fn share_longer<B: ClusterName>(
@@ -229,7 +253,7 @@ impl<B: ClusterName> SessionState<B> {
         requires run { IfSome self.old.current (λ transcript. S.map snapshot.now
             ≡ serial_map_at B.config.resolver_splits transcript.read_version (seen_of self.old.front).places) }
         ensures answers { OfOpen self.old.current result (λ transcript. Answers result
-            (if decided (program transcript.ops) key.now then None else S.key_fault snapshot.now key.now)
+            (get_fault (program transcript.ops) key.now (S.key_fault snapshot.now key.now))
             (λ value. (value ≡ get (copy (S.map snapshot.now) (program transcript.ops)) key.now)
             × (self.new ≡ with_current self.old
             (Some (with_op transcript (operation.Get key.now is_snapshot) (answer.Value value)))))) }
@@ -255,15 +279,19 @@ impl<B: ClusterName> SessionState<B> {
         requires version { IfSome self.old.current (λ transcript. S.at snapshot.now ≡ transcript.read_version) }
         requires run { IfSome self.old.current (λ transcript. S.map snapshot.now
             ≡ serial_map_at B.config.resolver_splits transcript.read_version (seen_of self.old.front).places) }
-        ensures answers { OfOpen self.old.current result (λ transcript. Answers result
-            (S.range_fault snapshot.now range.now)
-            (λ pairs. (pairs ≡ given_of (copy (S.map snapshot.now) (program transcript.ops)) range.now limit reverse)
+        ensures given { IfOk result (λ pairs. IfSome self.old.current (λ transcript.
+            (pairs ≡ given_of (copy (S.map snapshot.now) (program transcript.ops)) range.now limit reverse)
             × (self.new ≡ with_current self.old (Some (with_op transcript
             (operation.Range range.now limit reverse is_snapshot) (answer.Pairs pairs)))))) }
+        ensures fault { OfOpen self.old.current result (λ transcript. Answers result
+            (option_or (S.range_fault snapshot.now range.now) (unless_out result
+            (scan_fault (copy (S.map snapshot.now) (program transcript.ops)) (program transcript.ops) range.now limit
+            reverse)))
+            (λ _. ⊤)) }
         ensures refused { OnErr result (self.new ≡ self.old) }
     {
         match &mut self.current {
-            Some(txn) => txn.get_range(snapshot, range, limit, reverse, is_snapshot),
+            Some(txn) => range_of(txn, snapshot, range, limit, reverse, is_snapshot),
             None => Err(Refusal::NoTransaction),
         }
     }

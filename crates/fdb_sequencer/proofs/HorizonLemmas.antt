@@ -1,14 +1,16 @@
 -- Horizons never fall, and lie below the versions of their tickets.
-use Rattle.std.proofs.Common.{◌≡◌, subst, sym, arith, ⊎_elim, ℕ, ◌<◌, ◌≤◌, true, false, List, [], ◌∷◌, fold, None}
+use Rattle.std.proofs.Common.{◌≡◌, refl, subst, sym, arith, ◌-◌, ⊎_elim, ℕ, ◌<◌, ◌≤◌, true, false}
+use Rattle.std.proofs.Common.{List, [], ◌∷◌, fold, None}
 use Rattle.std.proofs.Common.{◌==◌, if◌then◌else◌}
-use Rattle.std.proofs.lemmas.Bool.{cases_Bool}
+use Rattle.std.proofs.lemmas.Bool.{cases_Bool, eq-eqb, or_left}
 use Rattle.std.proofs.lemmas.Grind.{common_steps}
 use Rattle.fdb_txn.specs.book.Book.{next_horizon}
 use Rattle.fdb_sequencer.specs.declared.ticket.Ticket.{Ticket}
 use Rattle.fdb_sequencer.specs.Sequencer.{Sequencer, fresh, accept_fault, accepting, moving, set_window_fault}
 use Rattle.fdb_sequencer.specs.Sequencer.{windowing}
 use Rattle.fdb_sequencer.specs.TicketLaws.{Act, Moves, Takes, Windows, after, AreTaken, tickets_in, last_horizon_of}
-use Rattle.fdb_sequencer.specs.TicketLaws.{HorizonNeverFalls}
+use Rattle.fdb_sequencer.specs.TicketLaws.{HorizonNeverFalls, HorizonIsTheGreatestBegin, IsGreatest, begins_in}
+use Rattle.fdb_sequencer.proofs.ReportLemmas.{named}
 use Rattle.fdb_sequencer.proofs.TicketLemmas.{accepted_is_now}
 
 -- a horizon is no less than the last one
@@ -31,6 +33,22 @@ horizon_never_falls s (Moves move ∷ acts) taken = horizon_never_falls (moving 
 horizon_never_falls s (Takes ticket ∷ acts) taken =
     omega (arith, accepted-rises s ticket taken.0, horizon_never_falls (accepting s ticket) acts taken.1)
 horizon_never_falls s (Windows window ∷ acts) taken = horizon_never_falls (windowing s window) acts taken.1
+
+pub horizon_is_the_greatest_begin : HorizonIsTheGreatestBegin
+horizon_is_the_greatest_begin s [] taken =
+    ((omega arith, tt), or_left (s.horizon == s.horizon) _ (eq-eqb s.horizon _ refl))
+horizon_is_the_greatest_begin s (Moves move ∷ acts) taken = horizon_is_the_greatest_begin (moving s move) acts taken.1
+horizon_is_the_greatest_begin s (Takes ticket ∷ acts) taken =
+    let is = (accepted_is_now s ticket taken.0).horizon in
+    let rest : IsGreatest (fold after (accepting s ticket) acts).horizon
+    (next_horizon s.horizon s.window ticket.version ∷ begins_in s.window acts) =
+    subst (λ (horizon : ℕ). IsGreatest (fold after (accepting s ticket) acts).horizon
+    (horizon ∷ begins_in s.window acts)) is (horizon_is_the_greatest_begin (accepting s ticket) acts taken.1) in (
+      (omega (arith, rest.0.0), (omega (arith, rest.0.0), rest.0.1)),
+      named s.horizon (ticket.version - s.window) _ _ rest.1,
+    )
+horizon_is_the_greatest_begin s (Windows window ∷ acts) taken =
+    horizon_is_the_greatest_begin (windowing s window) acts taken.1
 
 -- so none of a proxy's tickets has a greater one than the last ticket of all
 pub last_horizon-within : (s : Sequencer) (acts : List Act) (proxy last : ℕ) → last ≤ s.horizon → AreTaken s acts

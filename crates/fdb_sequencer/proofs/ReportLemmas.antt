@@ -10,7 +10,8 @@ one_of a b end is =
     ⊎_elim (λ below. inr (omega (arith, below, is))) (λ within. inl (omega (arith, within, is))) (cases_lt a b)
 
 -- where one of the numbers is the greater of two, one of them and the two is
-named : (a b end : ℕ) (rest : Bool) → ((max a b == end) || rest) ≡ true → ((a == end) || ((b == end) || rest)) ≡ true
+pub named : (a b end : ℕ) (rest : Bool) → ((max a b == end) || rest) ≡ true
+    → ((a == end) || ((b == end) || rest)) ≡ true
 named a b end rest some =
     ⊎_elim (λ is. ⊎_elim (λ first. or_left (a == end) _ (eq-eqb a end first))
     (λ second. or_right (a == end) _ (or_left (b == end) rest (eq-eqb b end second)))

@@ -2,6 +2,7 @@
 use Rattle.std.specs.Prelude.{◌≡◌, ℕ, [], ◌∷◌, Some, None}
 use Rattle.fdb_keys.specs.declared.refusal.Refusal.TheVariants.{Stale, Exhausted, BadConfig, MovesFull}
 use Rattle.fdb_txn.specs.declared.entry.Move.{Move}
+use Rattle.fdb_sequencer.specs.Sequencer.{fresh}
 use Rattle.fdb_sequencer.specs.Sequencer.{Sequencer, new_fault, next_version, planned, plan_fault, accept_fault}
 use Rattle.fdb_sequencer.specs.Sequencer.{accepting, move_fault, set_window_fault, windowing, report_fault, reporting}
 
@@ -86,6 +87,9 @@ WorkedHorizons =
     × (accept_fault (windowing (windowed 100 5000000 0) 10) (planned (windowed 100 5000000 0) 0 150) ≡ Some Stale)
     × (accept_fault (windowing (windowed 100 5000000 0) 250) (planned (windowed 100 5000000 0) 0 150) ≡ None)
     × (accept_fault (windowing (windowed 250 150 100) 5000000) (planned (windowed 250 151 100) 0 1) ≡ None)
+    × ((planned (windowing (windowing (windowed 250 5000000 0) 10) 5000000) 0 1).horizon ≡ 0)
+    × ((fresh 1 1 100).window ≡ 5000000)
+    × ((fresh 1 1 100).horizon ≡ 0)
 
 -- A move of no keys or to no resolver comes before one too many. There are 65,536 moves.
 abbrev pub WorkedMoves : Type 0

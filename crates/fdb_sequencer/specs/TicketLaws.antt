@@ -1,6 +1,6 @@
 -- Which tickets are accepted, that they make a book, which moves they tell their proxies, and what is committed.
-use Rattle.std.specs.Prelude.{◌≡◌, ◌+◌, ◌<◌, ◌≤◌, ◌++◌, ◌==◌, ⊤, ℕ, List, [], ◌∷◌, map, filter, flat_map, fold, length}
-use Rattle.std.specs.Prelude.{slice_get, Some, None, true, if◌then◌else◌}
+use Rattle.std.specs.Prelude.{◌≡◌, ◌+◌, ◌-◌, ◌<◌, ◌≤◌, ◌++◌, ◌==◌, ⊤, ℕ, List, [], ◌∷◌, map, filter, flat_map, fold}
+use Rattle.std.specs.Prelude.{length, slice_get, Some, None, true, if◌then◌else◌}
 use Rattle.std.specs.List.{AllByRecursion, list_any}
 use Rattle.fdb_keys.specs.declared.refusal.Refusal.TheVariants.{Stale}
 use Rattle.fdb_txn.specs.declared.entry.Entry.{Entry}
@@ -210,3 +210,16 @@ abbrev pub CommittedIsTheGreatestReported : Type 0
 CommittedIsTheGreatestReported =
     (s : Sequencer) (calls : List Call)
     → IsGreatest (fold after_call s calls).committed (s.committed ∷ reported_in calls)
+
+-- the begins of the windows of the tickets, each by the window of its time, which is this one at first
+abbrev pub begins_in : ℕ → List Act → List ℕ
+begins_in window [] = []
+begins_in window (Moves move ∷ acts) = begins_in window acts
+begins_in window (Takes ticket ∷ acts) = (ticket.version - window) ∷ begins_in window acts
+begins_in window (Windows other ∷ acts) = begins_in other acts
+
+-- Whatever is done, the horizon is the greatest one of the begins of all tickets' windows and of the one before.
+abbrev pub HorizonIsTheGreatestBegin : Type 0
+HorizonIsTheGreatestBegin =
+    (s : Sequencer) (acts : List Act) → AreTaken s acts
+    → IsGreatest (fold after s acts).horizon (s.horizon ∷ begins_in s.window acts)

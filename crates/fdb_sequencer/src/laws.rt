@@ -7,6 +7,7 @@ ghost use Rattle.fdb_sequencer.specs.Examples.{WorkedVersions, WorkedPlans, Work
 ghost use Rattle.fdb_sequencer.specs.Examples.{WorkedHorizons, WorkedMoves, WorkedReports, WorkedNumbers};
 ghost use Rattle.fdb_sequencer.specs.TicketLaws.{PlannedAreAccepted, AcceptedArePlanned, AcceptedOnce, IndicesCountUp};
 ghost use Rattle.fdb_sequencer.specs.TicketLaws.{TicketsMakeABook, FirstTicketsAreABook, HorizonNeverFalls};
+ghost use Rattle.fdb_sequencer.specs.TicketLaws.{HorizonIsTheGreatestBegin};
 ghost use Rattle.fdb_sequencer.specs.TicketLaws.{EachMoveTakesEffectOnce, EachProxyGetsEachMoveOnce};
 ghost use Rattle.fdb_sequencer.specs.TicketLaws.{PlannedMayBeLearnt, NothingIsCommittedFirst};
 ghost use Rattle.fdb_sequencer.specs.TicketLaws.{CommittedIsTheGreatestReported};
@@ -40,9 +41,11 @@ pub fn accepted_tickets_make_a_book()
     ensures book { FirstTicketsAreABook }
 {}
 
-/// The horizon of the last ticket never falls, whatever is done, also where the window grows.
+/// The horizon of the last ticket never falls, whatever is done, also where the window grows: it is the greatest one of
+/// the begins of all tickets' windows, each of which lies the window of its time below the ticket's version.
 pub fn the_horizon_never_falls()
-    ensures { HorizonNeverFalls }
+    ensures falls { HorizonNeverFalls }
+    ensures greatest { HorizonIsTheGreatestBegin }
 {}
 
 /// Each move takes effect once, with the first ticket that is accepted after it was made. Each proxy is told each

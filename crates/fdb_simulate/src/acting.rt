@@ -4,7 +4,7 @@ use crate::sim::{Sim, count_of};
 use crate::tally::Tally;
 use bytes::Bytes;
 use fdb_keys::{Key, KeyRange, Refusal, Refused};
-use fdb_mutations::Mutation;
+use fdb_mutations::{Mutation, STAMP_SIZE};
 use fdb_sections::{
     Asked, Client, ClusterName, CommitReply, LogState, Next, PullMachine, PullNext, ShardAt,
     ShardState,
@@ -33,6 +33,27 @@ fn write_number<B: ClusterName>(
     let written = client.write(&mutation);
     drop(mutation);
     written
+}
+
+// The client's open transaction sets the key to the stamp of its commit, and reads it. Answers whether that read is
+// refused, since the stamp isn't known yet.
+fn write_stamp<B: ClusterName>(
+    client: &mut Client<B>,
+    alloc: Global,
+    key: &Key,
+) -> Result<bool, Refusal> {
+    let mutation = Mutation::stamped(alloc, key.bytes(), &[0; STAMP_SIZE], 0)?;
+    let written = client.write(&mutation);
+    drop(mutation);
+    written?;
+    match client.get_decided(alloc, key, false) {
+        Ok(value) => {
+            drop(value);
+            Ok(false)
+        }
+        Err(Refusal::AccessedUnreadable) => Ok(true),
+        Err(why) => Err(why),
+    }
 }
 
 // The client's open transaction reads the key at its shard, which has come to its read version.
@@ -338,8 +359,43 @@ impl<B: ClusterName> Sim<B> {
         }
     }
 
-    // It writes a key that is drawn.
+    // It writes a key that is drawn: a number, or now and then the stamp of its commit.
     fn write(&mut self, number: u32) {
+        if self.draw(4) == 0 {
+            self.stamp(number);
+        } else {
+            self.set(number);
+        }
+    }
+
+    fn stamp(&mut self, number: u32) {
+        let count = count_of(self.keys.len());
+        let drawn = self.draw(count);
+        let Some(key) = self.keys.get(drawn as usize) else {
+            return;
+        };
+        let Some(player) = self.players.get_mut(number as usize) else {
+            return;
+        };
+        match write_stamp(&mut player.client, self.alloc, key) {
+            Ok(is_hidden) => {
+                self.note_stamp(is_hidden);
+                self.wish(number, Wish::Commit);
+            }
+            Err(_why) => self.refuse(number),
+        }
+    }
+
+    // Its own stamp was hidden from it, or it wasn't.
+    fn note_stamp(&mut self, is_hidden: bool) {
+        if is_hidden {
+            Tally::add(&mut self.told.tally.unreadable);
+        } else {
+            Tally::add(&mut self.told.tally.unexplained);
+        }
+    }
+
+    fn set(&mut self, number: u32) {
         let count = count_of(self.keys.len());
         let drawn = self.draw(count);
         let Some(key) = self.keys.get(drawn as usize) else {

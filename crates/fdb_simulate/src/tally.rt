@@ -16,10 +16,12 @@ pub struct Tally {
     pub forgotten: u64,
     /// How many of these no proxy took, as if memory had run out, so that they are committed once more.
     pub untaken: u64,
+    /// How many reads were refused as they read a stamp that is known only once it is committed.
+    pub unreadable: u64,
     /// How many answers nothing in the plan explains: 0 where all is well. Where no role fails, nobody is told that
     /// nothing is known of a transaction; where the database isn't closed either, and its book isn't full, none is
-    /// refused but for a conflict or its age, or as no proxy took it, and then it is open again; and a version that is
-    /// read at is forgotten only where it is too old.
+    /// refused but for a conflict or its age, or as no proxy took it, and then it is open again; a version that is read
+    /// at is forgotten only where it is too old; and no own stamp is read.
     pub unexplained: u64,
     /// How many of those that were refused as having no effect stand in the book: 0 where all is well.
     pub found: u64,
@@ -49,6 +51,7 @@ impl Tally {
             refused: 0,
             forgotten: 0,
             untaken: 0,
+            unreadable: 0,
             unexplained: 0,
             found: 0,
             early: 0,

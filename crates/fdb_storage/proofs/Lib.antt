@@ -10,6 +10,7 @@ mod LentLemmas
 mod LogMessagesLemmas
 mod PagesLemmas
 mod PairsLemmas
+mod StampedLemmas
 mod TagLemmas
 mod VersionCountLemmas
 mod VersionListLemmas

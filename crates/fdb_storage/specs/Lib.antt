@@ -6,6 +6,7 @@ pub mod LogMessages
 pub mod Replays
 pub mod ShardMaps
 pub mod Shards
+pub mod StampedMessages
 pub mod ValueExamples
 pub mod VersionLists
 pub mod VersionMaps

@@ -2,6 +2,7 @@
 use Rattle.std.specs.Prelude.{◌≡◌, ◌≤◌, ℕ, max, Bool, true, false, not, ◌&&◌, ◌==◌, nat_lt, List, fold, length, Option}
 use Rattle.std.specs.Prelude.{Some, None, if◌then◌else◌}
 use Rattle.std.specs.FinMap.{get}
+use Rattle.std.specs.Option.{option_or}
 use Rattle.fdb_keys.specs.declared.refusal.Refusal.{Refusal}
 use Rattle.fdb_keys.specs.declared.refusal.Refusal.TheVariants.{Failed, Unknown, KeyOutsideLegalRange}
 use Rattle.fdb_keys.specs.declared.refusal.Refusal.TheVariants.{TransactionTooOld, FutureVersion}
@@ -13,6 +14,7 @@ use Rattle.fdb_txn.specs.rules.Messages.{value_with}
 use Rattle.fdb_txn.specs.Turn.{turn_fault}
 use Rattle.fdb_log.specs.declared.peek.Peek.{Peek}
 use Rattle.fdb_mutations.specs.declared.page.Page.{Page}
+use Rattle.fdb_storage.specs.StampedMessages.{stamped_fault}
 use Rattle.fdb_storage.specs.VersionLists.{kept_from}
 use Rattle.fdb_storage.specs.VersionMaps.{VersionedKeys, value_of, EndBy, HaveLegalKeys}
 
@@ -62,12 +64,12 @@ part_fault shard range version =
     if shard.is_failed then Some Failed
     else (if ranges_meet range shard.range then serving_fault version shard.floor shard.version else None)
 
--- why it refuses messages
+-- why it refuses messages, of which none may have a mutation that waits for a stamp
 abbrev pub apply_fault : Shard → Peek → Option Refusal
 apply_fault shard peek =
     if not (peek.tag == shard.tag) then Some Unknown
     else (if shard.is_failed then Some Failed
-    else turn_fault shard.version peek.after)
+    else option_or (stamped_fault peek.messages) (turn_fault shard.version peek.after))
 
 -- why it refuses to raise its floor
 abbrev pub forget_fault : Shard → ℕ → Option Refusal

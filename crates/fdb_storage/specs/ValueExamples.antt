@@ -1,7 +1,7 @@
 -- What shards answer, and what replays cover, computed.
 use Rattle.std.specs.Prelude.{◌≡◌, ℕ, true, false, List, [], ◌∷◌, Option, Some, None}
 use Rattle.std.specs.FinMap.{get}
-use Rattle.fdb_keys.specs.declared.refusal.Refusal.TheVariants.{NotYet}
+use Rattle.fdb_keys.specs.declared.refusal.Refusal.TheVariants.{NotYet, BadOperand}
 use Rattle.fdb_mutations.specs.declared.mutation.Mutation.TheVariants.{Set, Clear, ClearRange, Add}
 use Rattle.fdb_mutations.specs.Examples.{one}
 use Rattle.fdb_mutations.specs.Maps.{Map}
@@ -10,7 +10,7 @@ use Rattle.fdb_txn.specs.declared.tag_msg.TagMsg.{TagMsg}
 use Rattle.fdb_txn.specs.rules.Messages.{Body}
 use Rattle.fdb_log.specs.declared.peek.Peek.{Peek}
 use Rattle.fdb_mutations.specs.declared.page.Page.{Page}
-use Rattle.fdb_storage.specs.Examples.{span}
+use Rattle.fdb_storage.specs.Examples.{span, message_of, sets, waits}
 use Rattle.fdb_storage.specs.Replays.{covered, messages_of, replay_fault}
 use Rattle.fdb_storage.specs.declared.version_list.VersionedValue.{VersionedValue}
 use Rattle.fdb_storage.specs.VersionMaps.{VersionedKeys}
@@ -171,7 +171,8 @@ WorkedCopied =
 
 -- No peek; one from 0 on, and one that isn't; two that go on, that overlap, of which the second one ends before the
 -- first one, and that leave a gap, which a third one doesn't fill. What is refused is told the first version that is
--- missing. The messages are those of the first peek and then those of the second.
+-- missing; before that it is told that a mutation waits for a stamp, also where no read wants its message. The messages
+-- are those of the first peek and then those of the second.
 abbrev pub WorkedReplays : Type 0
 WorkedReplays =
     (covered [] ≡ 0)
@@ -188,6 +189,9 @@ WorkedReplays =
     × (replay_fault (peek 0 60 [] ∷ peek 60 100 [] ∷ []) 101 ≡ Some (NotYet 101))
     × (replay_fault (peek 0 60 [] ∷ peek 61 100 [] ∷ []) 60 ≡ None)
     × (replay_fault (peek 0 60 [] ∷ peek 61 100 [] ∷ []) 100 ≡ Some (NotYet 61))
+    × (replay_fault (peek 0 60 (message_of (sets ∷ []) ∷ []) ∷ []) 60 ≡ None)
+    × (replay_fault (peek 0 60 [] ∷ peek 61 100 (message_of (sets ∷ waits ∷ []) ∷ []) ∷ []) 60 ≡ Some BadOperand)
+    × (replay_fault (peek 0 60 [] ∷ peek 61 100 (message_of (sets ∷ waits ∷ []) ∷ []) ∷ []) 100 ≡ Some BadOperand)
     × (messages_of [] ≡ [])
     × (messages_of (peek 0 60 (message 50 0 [] ∷ message 60 50 [] ∷ []) ∷ peek 60 100 (message 100 60 [] ∷ []) ∷ [])
     ≡ message 50 0 [] ∷ message 60 50 [] ∷ message 100 60 [] ∷ [])

@@ -1,7 +1,9 @@
 //! Which shards a mutation concerns, and what messages leave, for the proofs of the crates that use these types.
-ghost use Rattle.fdb_storage.specs.Examples.{WorkedReads, WorkedParts, WorkedApplies, WorkedFloors};
+ghost use Rattle.fdb_storage.specs.Examples.{WorkedReads, WorkedParts, WorkedStamped, WorkedApplies};
+ghost use Rattle.fdb_storage.specs.Examples.{WorkedFloors};
 ghost use Rattle.fdb_storage.specs.LogMessages.{LogsAreSentTheMessages, MessagesAboveAVersion};
 ghost use Rattle.fdb_storage.specs.ShardMaps.{TagsAreTheShards};
+ghost use Rattle.fdb_storage.specs.StampedMessages.{NoStampedIsSent};
 ghost use Rattle.fdb_storage.specs.ValueExamples.{WorkedValues, WorkedPages, WorkedApplied, WorkedForgotten};
 ghost use Rattle.fdb_storage.specs.ValueExamples.{WorkedFollowed, WorkedKept, WorkedCopied, WorkedReplays};
 
@@ -18,10 +20,17 @@ pub fn logs_are_sent_the_messages_of_their_tags()
     ensures above { MessagesAboveAVersion }
 {}
 
+/// No shard is sent a mutation that waits for a stamp: the messages of entries have none, whatever was seen before
+/// them.
+pub fn no_shard_is_sent_what_waits_for_a_stamp()
+    ensures { NoStampedIsSent }
+{}
+
 /// Why calls are refused, by examples: which refusal comes first, and where a shard serves.
 pub fn worked_refusals()
     ensures reads { WorkedReads }
     ensures parts { WorkedParts }
+    ensures stamped { WorkedStamped }
     ensures applies { WorkedApplies }
     ensures floors { WorkedFloors }
 {}

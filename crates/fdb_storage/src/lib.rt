@@ -9,6 +9,7 @@ mod paging;
 mod replaying;
 mod shard;
 mod shard_map;
+mod stamped;
 mod version_list;
 mod version_map;
 

@@ -8,14 +8,17 @@ ghost use Rattle.fdb_storage.specs.CutMaps.{cut_with};
 ghost use Rattle.fdb_storage.specs.Replays.{covered, messages_of, replay_fault};
 
 use crate::cut_map::apply_messages;
+use crate::stamped::any_has_stamped;
 use fdb_keys::{KeyRange, Refusal};
 use fdb_log::Peek;
 use fdb_mutations::PlainMap;
 use std::alloc::Global;
 
 /// The map that the messages of the peeks through a version leave in the range, from the empty map. Refused as
-/// `NotYet` with the first version that no peek covers, where they don't go on from version 0 through that version one
-/// after another, and as `NoMemory`.
+/// `BadOperand` where a mutation in any of the messages is a `Stamped`, which still waits for its stamp, as `NotYet`
+/// with the first version that no peek covers, where they don't go on from version 0 through that version one after
+/// another, and as `NoMemory`. It takes O(log n) comparisons for n keys of the map and each mutation of a key, and as
+/// many for a range and each key of it that is cleared.
 pub fn replay(
     alloc: Global,
     range: &KeyRange,
@@ -25,6 +28,9 @@ pub fn replay(
     ensures { Answers result (replay_fault peeks.now version) (λ map. (x : Point)
         → get map x ≡ (if in_range range.now x then value_in version x (messages_of peeks.now) else None)) }
 {
+    if any_has_stamped(peeks) {
+        return Err(Refusal::BadOperand);
+    }
     let through = covered(peeks);
     if through < version {
         return Err(Refusal::NotYet(through + 1));

@@ -1,6 +1,7 @@
 use crate::applying::apply_messages;
 use crate::copying::copy_part;
 use crate::paging::page_of;
+use crate::stamped::have_stamped;
 use crate::version_map::VersionMap;
 use bytes::Bytes;
 use fdb_keys::{Key, KeyRange, Refusal};
@@ -66,11 +67,11 @@ impl Shard {
     }
 
     /// Applies the messages of the shard's tag after its version. Refused as `Unknown` where they are another tag's, as
-    /// `Failed` once memory ran out in an earlier call, as `Stale` where they begin after an earlier version than the
-    /// shard's, as `NotYet` with the version after which they begin where that is a later one, and as `NoMemory`. The
-    /// shard stays as it was where it is refused, but for `NoMemory`, after which it has failed. A mutation of a key
-    /// takes O(log n) comparisons for n keys, and one that clears a range as many and O(log n) for each key that it
-    /// clears.
+    /// `Failed` once memory ran out in an earlier call, as `BadOperand` where a mutation in them is a `Stamped`, which
+    /// still waits for its stamp, as `Stale` where they begin after an earlier version than the shard's, as `NotYet`
+    /// with the version after which they begin where that is a later one, and as `NoMemory`. The shard stays as it was
+    /// where it is refused, but for `NoMemory`, after which it has failed. A mutation of a key takes O(log n)
+    /// comparisons for n keys, and one that clears a range as many and O(log n) for each key that it clears.
     pub fn apply(&mut self, peek: &Peek) -> Result<(), Refusal>
         requires { IsPeek peek.now }
         ensures answers { Answers result (apply_fault self.old peek.now) (λ _. HasApplied self.old peek.now self.new) }
@@ -226,6 +227,9 @@ impl Shard {
         }
         if self.is_failed {
             return Err(Refusal::Failed);
+        }
+        if have_stamped(peek.messages.as_slice()) {
+            return Err(Refusal::BadOperand);
         }
         check_turn(self.version, peek.after)
     }

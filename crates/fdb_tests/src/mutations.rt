@@ -5,7 +5,7 @@ use fdb_keys::{Items, Key, KeyRange, Refusal};
 use fdb_making::{
     apply, ask, ask_both, code_of, equals_copy, filled, has_bounds, made_of, text_of,
 };
-use fdb_mutations::{Mutation, PlainMap, one_more, page_of};
+use fdb_mutations::{Mutation, PlainMap, Stamp, copied, one_more, page_of};
 use std::alloc::Global;
 
 type Text = &'static [u8];
@@ -77,6 +77,105 @@ fn values_and_operands_have_their_limits(rt: HostRuntime) {
         &rt,
         code_and_size(Mutation::set(alloc, b"b", b"one")),
         Ok((0, 4)),
+    );
+}
+
+// The same of a stamped value with as many bytes, whose stamp is to stand at the offset.
+fn stamped_long(alloc: Global, count: usize, offset: u32) -> Result<(u32, u64), u32> {
+    match text_of(alloc, 1, count) {
+        Ok(operand) => { code_and_size(Mutation::stamped(alloc, b"a", operand.as_slice(), offset)) }
+        Err(why) => Err(why.code()),
+    }
+}
+
+// How many bytes an operand has, the offset of its stamp, and what that comes to.
+static STAMPED: [(usize, u32, (u32, u64)); 9] = [
+    (10, 0, (0, 11)),
+    (9, 0, (9008, 10)),
+    (0, 0, (9008, 1)),
+    (12, 2, (0, 13)),
+    (12, 3, (9008, 13)),
+    (12, u32::MAX, (9008, 13)),
+    // Values have at most 100,000 bytes, and that is looked at first.
+    (100_000, 99_990, (0, 100_001)),
+    (100_000, 99_991, (9008, 100_001)),
+    (100_001, u32::MAX, (2103, 100_002)),
+];
+
+#[test]
+fn stamps_have_room_in_their_operands(rt: HostRuntime) {
+    for (count, offset, wanted) in STAMPED.as_slice() {
+        same(
+            &rt,
+            (count, stamped_long(rt.alloc(), *count, *offset)),
+            (count, Ok(*wanted)),
+        );
+    }
+}
+
+// What the mutation with the stamp of version 258 and place 3 makes of a where that has no value.
+fn stamped_at_a(
+    alloc: Global,
+    mutation: Result<Mutation, Refusal>,
+) -> Result<Option<Bytes>, Refusal> {
+    let mutation = mutation?;
+    let stamped = mutation.stamp(alloc, Stamp::new(258, 3));
+    drop(mutation);
+    made_of(
+        stamped.map_err(Refusal::from),
+        |stamped| made_at_a(alloc, stamped),
+    )
+}
+
+// The same on a map that had a value there.
+fn put_stamped(
+    alloc: Global,
+    mutation: Result<Mutation, Refusal>,
+) -> Result<Option<Bytes>, Refusal> {
+    let mut map = filled(alloc)?;
+    let mutation = mutation?;
+    let put = map.apply_stamped(&mutation, Stamp::of_place(258, 3));
+    drop(mutation);
+    put?;
+    let key = Key::new(alloc, b"a")?;
+    Ok(copied(map.get(&key))?)
+}
+
+// An operand, the offset of its stamp, and what it becomes.
+static BECOMES: [(Text, u32, Text); 4] = [
+    (b"0123456789", 0, &[0, 0, 0, 0, 0, 0, 1, 2, 0, 3]),
+    (
+        b"x0123456789y",
+        1,
+        &[b'x', 0, 0, 0, 0, 0, 0, 1, 2, 0, 3, b'y'],
+    ),
+    (
+        b"xy0123456789",
+        2,
+        &[b'x', b'y', 0, 0, 0, 0, 0, 0, 1, 2, 0, 3],
+    ),
+    // Of one without room as much is left as lies beside its stamp.
+    (b"0123", 2, &[b'0', b'1', 0, 0, 0, 0, 0, 0, 1, 2, 0, 3]),
+];
+
+#[test]
+fn stamps_take_the_place_of_ten_bytes(rt: HostRuntime) {
+    let alloc = rt.alloc();
+    for (operand, offset, wanted) in BECOMES.as_slice() {
+        let wanted = Ok(Some(Bytes::from_static(*wanted)));
+        let made = stamped_at_a(alloc, Mutation::stamped(alloc, b"a", operand, *offset));
+        let put = put_stamped(alloc, Mutation::stamped(alloc, b"a", operand, *offset));
+        assert!(rt; made == wanted && put == wanted, "at {offset}");
+    }
+    let set = stamped_at_a(alloc, Mutation::set(alloc, b"a", b"0123456789"));
+    assert!(rt; set == Ok(Some(Bytes::from_static(b"0123456789"))));
+    same(
+        &rt,
+        [
+            Stamp::new(u64::MAX, u16::MAX).bytes(),
+            Stamp::of_place(1, 65_537).bytes(),
+        ],
+        [[255; 10], [0, 0, 0, 0, 0, 0, 0, 1, 0, 1]],
     );
 }
 

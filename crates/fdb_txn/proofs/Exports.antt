@@ -13,7 +13,7 @@ pub use Rattle.fdb_txn.proofs.rules.CornersLemmas.{alike-first_owner, asked_at_s
 pub use Rattle.fdb_txn.proofs.rules.CornersLemmas.{owned_at_some_version, some_of-any}
 pub use Rattle.fdb_txn.proofs.rules.MessagesLemmas.{at_most-more, entries-split, get-effects, meets_at_some_point}
 pub use Rattle.fdb_txn.proofs.rules.MessagesLemmas.{messages_go_on, mutations-if, serial_map-add_places, shards_go_on}
-pub use Rattle.fdb_txn.proofs.rules.MessagesLemmas.{shards_hold_the_run}
+pub use Rattle.fdb_txn.proofs.rules.MessagesLemmas.{messages_are_stamped, shards_hold_the_run}
 pub use Rattle.fdb_txn.proofs.rules.ResolverLemmas.{state_decides, state_forgets, state_takes_place}
 pub use Rattle.fdb_txn.proofs.rules.SerialMapLemmas.{reads_stand}
 pub use Rattle.fdb_txn.proofs.rules.SplitsLemmas.{pieces_part_the_keys, range-made}

@@ -2,3 +2,4 @@ pub mod AdmissionLaws
 pub mod Examples
 pub mod ResolverLaws
 pub mod SerialMapLaws
+pub mod StampExamples

@@ -4,3 +4,4 @@ pub mod Owners
 pub mod Resolvers
 pub mod SerialMap
 pub mod Splits
+pub mod Stamped

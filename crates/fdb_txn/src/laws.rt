@@ -9,13 +9,14 @@ ghost use Rattle.fdb_txn.specs.laws.Examples.{LimitNumbers};
 ghost use Rattle.fdb_txn.specs.laws.Examples.{Sizes, OneBatch, WriteSkew, FalseConflict, FormerOwner, ThereAndBack};
 ghost use Rattle.fdb_txn.specs.laws.Examples.{EqualIsNotNewer, Window, OldReading, TwoMoves, Spans, AtBounds};
 ghost use Rattle.fdb_txn.specs.laws.Examples.{ShardMessages, Entries, Books, Numbers, Horizon, Horizons};
+ghost use Rattle.fdb_txn.specs.laws.StampExamples.{Stamps};
 ghost use Rattle.fdb_txn.specs.laws.AdmissionLaws.{OverlapsAtSomePoint, AskedAtSomePoint, OwnedAtSomeVersion};
 ghost use Rattle.fdb_txn.specs.laws.AdmissionLaws.{AdmitsWithoutConflict, CommittedByTheAsked, OldIsAsked};
 ghost use Rattle.fdb_txn.specs.laws.ResolverLaws.{AskedWhereItHasAPart, LastVersionsDecide, OnePlaceMore, StateDecides};
 ghost use Rattle.fdb_txn.specs.laws.ResolverLaws.{StateTakesPlace, StateForgets, ForgottenAgree};
 ghost use Rattle.fdb_txn.specs.rules.Splits.{PiecesPartTheKeys};
 ghost use Rattle.fdb_txn.specs.rules.Messages.{MeetsAtSomePoint, MessagesAreForTheRange, ShardsHoldTheRun};
-ghost use Rattle.fdb_txn.specs.rules.Messages.{MessagesGoOn, ShardsGoOn};
+ghost use Rattle.fdb_txn.specs.rules.Messages.{MessagesGoOn, ShardsGoOn, MessagesAreStamped};
 ghost use Rattle.fdb_txn.specs.laws.SerialMapLaws.{BooksAreEntries, PlacesAreHistory, PlacesAreFoundInTheBook};
 ghost use Rattle.fdb_txn.specs.laws.SerialMapLaws.{ReadsStand, EarlierPlacesStay, EarlierMapsStay, EntriesGoOn};
 ghost use Rattle.fdb_txn.specs.laws.SerialMapLaws.{HorizonsPart};
@@ -155,17 +156,18 @@ pub fn one_more_entry_changes_nothing_earlier()
 
 /// A mutation meets a shard's range exactly where it names some point of it, and a shard's messages have no
 /// others. At each point of the range and each version, the mutations of committed transactions that meet the
-/// range leave what stands there on the serial map at that version.
+/// range leave what stands there on the serial map at that version. Each of them is stamped.
 pub fn messages_of_a_shard_leave_the_serial_map_on_its_range()
     ensures meets { MeetsAtSomePoint }
     ensures for_range { MessagesAreForTheRange }
     ensures holds { ShardsHoldTheRun }
     ensures go_on { MessagesGoOn }
     ensures shards_go_on { ShardsGoOn }
+    ensures stamped { MessagesAreStamped }
 {}
 
-/// What the rules say of each transaction of some small books: which resolvers are asked about it, which
-/// admit it, whether it is old, and whether it is committed; what shards are sent of it; which entries may
+/// What the rules say of each transaction of some small books: which resolvers are asked about it, which admit it,
+/// whether it is old, and whether it is committed; what shards are sent of it, and how it is stamped; which entries may
 /// stand in a book, and which lists of them are books; how places are numbered; what the horizon of an entry is; and
 /// how many bytes transactions have.
 pub fn worked_examples()
@@ -182,6 +184,7 @@ pub fn worked_examples()
     ensures spans { Spans }
     ensures at_bounds { AtBounds }
     ensures shard_messages { ShardMessages }
+    ensures stamps { Stamps }
     ensures entries { Entries }
     ensures books { Books }
     ensures numbers { Numbers }

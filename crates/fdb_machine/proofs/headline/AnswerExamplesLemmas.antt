@@ -49,6 +49,9 @@ other_versions_are_no_answers = (
   (λ is. let wrong : 100 ≡ 0 = ap version_of is.0 in absurd (omega (arith, wrong))),
   (λ is. let wrong : 101 ≤ 100 = is.1 in absurd (omega (arith, wrong))),
   (λ is. let wrong : 0 ≡ 100 = is.2 ∙ sym (ap version_opened is.1) in absurd (omega (arith, wrong))),
+  (λ is. let wrong : 1 ≤ 0 = is.1 in absurd (omega (arith, wrong))),
+  (λ is. let wrong : 5000001 ≤ 5000000 = is.2 in absurd (omega (arith, wrong))),
+  (λ is. let wrong : answered.Version 5 ≡ answered.Done = is.0 in cc),
 )
 
 abbrev splits : List Point

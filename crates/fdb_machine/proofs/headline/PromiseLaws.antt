@@ -1,34 +1,41 @@
 -- What follows from the answer of one step.
-use Rattle.std.proofs.Common.{◌≡◌, ◌<◌, ◌∙◌, ⊎_elim, sym, ap, refl, arith, ℕ, suc, Bool, true, false, List, [], length}
+use Rattle.std.proofs.Common.{◌≡◌, ◌<◌, ◌∙◌, ⊎_elim, sym, ap, refl, subst, arith, ℕ, suc, Bool, true, false, List, []}
+use Rattle.std.proofs.Common.{length}
 use Rattle.std.proofs.Common.{Option, Some, None, Ok, Err, map, if◌then◌else◌}
 use Rattle.std.specs.Prelude.{◌↔◌, nat_lt}
 use Rattle.std.specs.List.{slice_get, list_any}
-use Rattle.std.proofs.lemmas.Bool.{both_ways}
+use Rattle.std.specs.Option.{option_or}
+use Rattle.std.proofs.lemmas.Bool.{both_ways, cond-true}
 use Rattle.std.proofs.lemmas.Option.{slice_get_cases}
 use Rattle.fdb_keys.specs.declared.refusal.Refusal.{Refusal}
-use Rattle.fdb_keys.specs.declared.refusal.Refusal.TheVariants.{TransactionTooOld, FutureVersion, Exhausted}
+use Rattle.fdb_keys.specs.declared.refusal.Refusal.TheVariants.{TransactionTooOld, FutureVersion, AccessedUnreadable}
+use Rattle.fdb_keys.specs.declared.refusal.Refusal.TheVariants.{Exhausted}
 use Rattle.fdb_keys.specs.Points.{Point}
-use Rattle.fdb_keys.specs.Ranges.{Range}
+use Rattle.fdb_keys.specs.Ranges.{Range, in_range}
 use Rattle.fdb_keys.proofs.Exports.{in_range-empty}
 use Rattle.fdb_txn.specs.rules.Owners.{first_owner}
 use Rattle.fdb_txn.proofs.Exports.{owner-exists}
 use Rattle.fdb_client.specs.declared.program.Op.{Op}
 use Rattle.fdb_client.specs.declared.program.Op.TheVariants as op
 use Rattle.fdb_client.specs.declared.program.Transcript.{Transcript}
-use Rattle.fdb_client.specs.Programs.{program, decided}
+use Rattle.fdb_client.specs.Programs.{program, copy, decided}
+use Rattle.fdb_client.specs.Unreadable.{unreadable, unreadable_in}
+use Rattle.fdb_client.proofs.Exports.{unreadable-decided}
 use Rattle.fdb_machine.specs.machine.Roles.{ShardProgress}
 use Rattle.fdb_machine.specs.machine.ClientSteps.{reads, answered_by, point_fault, range_fault, fault_after}
-use Rattle.fdb_machine.specs.machine.ClientSteps.{reply_after}
+use Rattle.fdb_machine.specs.machine.ClientSteps.{map_read, reply_after}
 use Rattle.fdb_machine.specs.machine.GrvProxySteps.{grants, has_no_number}
 use Rattle.fdb_machine.specs.machine.RoleSteps.{shard_fault, version_of_shard}
 use Rattle.fdb_machine.specs.machine.Machine.{Machine, Transition}
 use Rattle.fdb_machine.specs.machine.Sessions.{open_at}
 use Rattle.fdb_machine.specs.headline.Promises.{RefusalsChangeNothing, GrantsCommitted, GetsFromTheRun, GetsRefused}
 use Rattle.fdb_machine.specs.headline.Promises.{RangeReadsFromTheRun, RangeReadsRefused, Lags, Forgot, Serves}
-use Rattle.fdb_machine.specs.headline.Promises.{AtSomePoint, AtEachPoint}
+use Rattle.fdb_machine.specs.headline.Promises.{AtSomePoint, AtEachPoint, UnreadableKeysAskNoShard, scanned_by}
 use Rattle.fdb_machine.specs.machine.Steps.{after}
 use Rattle.fdb_machine.proofs.machine.RangeFaultLemmas.{of-range, too-old-range, served-range}
 use Rattle.fdb_machine.proofs.machine.Transitions.{reads-transition, reads-refused}
+use Rattle.fdb_machine.proofs.machine.UnreadableLemmas.{some-unreadable, none-unreadable}
+use Rattle.fdb_machine.proofs.machine.UnreadableLemmas.{scanned-empty}
 use Rattle.fdb_machine.proofs.machine.AcceptedTransitions.{of-accepted, past-found, past-test, past-fault, past-open}
 use Rattle.fdb_machine.specs.declared.step.Answered.TheVariants as answered
 
@@ -174,13 +181,28 @@ unless-own false fault why P same = ((λ faulty. (refl, same.0 faulty)), (λ hol
 both-ways : (P Q R : Type 0) → P ↔ Q → Q ↔ R → P ↔ R
 both-ways P Q R first second = ((λ holds. second.0 (first.0 holds)), (λ holds. first.1 (second.1 holds)))
 
+-- no shard refuses so
+readable-shard : (m : Machine) (version : ℕ) (there : Option ShardProgress)
+    → shard_fault m.book version there ≡ Some AccessedUnreadable → ⊥
+readable-shard m version None faulty = cc
+readable-shard m version (Some progress) faulty = by_tests _ _ faulty
+  where
+    by_tests : (old late : Bool)
+        → (if old then Some TransactionTooOld else (if late then Some FutureVersion else None))
+        ≡ Some AccessedUnreadable → ⊥
+    by_tests true late faulty = cc
+    by_tests false true faulty = cc
+    by_tests false false faulty = cc
+
 -- A read of an open transaction is refused as in the future exactly where the key's shard lags, as too old exactly
--- where it has forgotten, and not at all where the key is decided.
+-- where it has forgotten, as unreadable exactly where the key is so, and not at all where the key is else decided.
 pub gets_refused : GetsRefused
 gets_refused m session key snapshot transcript opened = (
-  as_the_shard FutureVersion (Lags m version key) (shard-after m version there),
-  as_the_shard TransactionTooOld (Forgot m version key) (shard-forgot m version there),
-  λ is_decided. (_, reads-transition m session operation transcript opened (rw is_decided refl)),
+  as_the_shard FutureVersion (λ same. cc) (Lags m version key) (shard-after m version there),
+  as_the_shard TransactionTooOld (λ same. cc) (Forgot m version key) (shard-forgot m version there),
+  both-ways _ _ _ (reads-refused m session operation transcript opened AccessedUnreadable)
+      (where_unreadable _ _ _ (readable-shard m version there)),
+  λ is_decided readable. (_, reads-transition m session operation transcript opened (rw (readable, is_decided) refl)),
 )
   where
     operation : Op
@@ -192,10 +214,40 @@ gets_refused m session key snapshot transcript opened = (
     there : Option ShardProgress
     there = slice_get m.shards (first_owner m.config.shard_splits key)
 
-    as_the_shard : (why : Refusal) (P : Type 0) → (shard_fault m.book version there ≡ Some why) ↔ P
-        → (reads m session operation ≡ Err why) ↔ ((decided (program transcript.ops) key ≡ false) × P)
-    as_the_shard why P same = both-ways _ _ _ (reads-refused m session operation transcript opened why)
-        (unless-own (decided (program transcript.ops) key) (shard_fault m.book version there) why P same)
+    ops : List Op
+    ops = program transcript.ops
+
+    where_unreadable : (hidden own : Bool) (fault : Option Refusal) → (fault ≡ Some AccessedUnreadable → ⊥)
+        → ((if hidden then Some AccessedUnreadable else (if own then None else fault)) ≡ Some AccessedUnreadable)
+        ↔ (hidden ≡ true)
+    where_unreadable true own fault never = ((λ faulty. refl), (λ is. refl))
+    where_unreadable false true fault never = ((λ faulty. cc), (λ is. cc))
+    where_unreadable false false fault never = ((λ faulty. absurd (never faulty)), (λ is. cc))
+
+    unless_unreadable : (why : Refusal) → (why ≡ AccessedUnreadable → ⊥) → (hidden own : Bool) (fault : Option Refusal)
+        → (hidden ≡ true → own ≡ true)
+        → ((if hidden then Some AccessedUnreadable else (if own then None else fault)) ≡ Some why)
+        ↔ ((if own then None else fault) ≡ Some why)
+    unless_unreadable why other true true fault decides =
+        ((λ faulty. absurd (other (cc faulty))), (λ faulty. cc))
+    unless_unreadable why other true false fault decides = absurd (both_ways false refl (decides refl))
+    unless_unreadable why other false own fault decides = ((λ faulty. faulty), (λ faulty. faulty))
+
+    as_the_shard : (why : Refusal) → (why ≡ AccessedUnreadable → ⊥) → (P : Type 0)
+        → (shard_fault m.book version there ≡ Some why) ↔ P
+        → (reads m session operation ≡ Err why) ↔ ((decided ops key ≡ false) × P)
+    as_the_shard why other P same = both-ways _ _ _ (reads-refused m session operation transcript opened why)
+        (both-ways _ _ _ (unless_unreadable why other (unreadable ops key) (decided ops key)
+        (shard_fault m.book version there) (unreadable-decided ops key))
+        (unless-own (decided ops key) (shard_fault m.book version there) why P same))
+
+-- such a refusal asks no shard
+pub unreadable_keys_ask_no_shard : UnreadableKeysAskNoShard
+unreadable_keys_ask_no_shard state session key snapshot transcript opened is =
+    let own = unreadable-decided (program transcript.ops) key is in
+    let refused = (reads-refused state.machine session (op.Get key snapshot) transcript opened AccessedUnreadable).1
+    (cond-true _ _ _ is) in
+    (own, rw (opened, own) refused)
 
 -- two points that one shard holds have one fault
 held-alike : (m : Machine) (version : ℕ) (x y : Point)
@@ -267,30 +319,84 @@ module _ (m : Machine) (version : ℕ) (range : Range) where
           (λ too_old. both.0 (one.0, one.1, (shard-forgot m version (holder one.0)).0 too_old))
 
 -- A read of a range is refused as too old where one of its points is forgotten, as in the future where none is and one
--- lags, and not at all where each of them is served.
+-- lags, as unreadable where each of them is served and what was scanned has an unreadable one, and not at all where it
+-- has none.
 pub range_reads_refused : RangeReadsRefused
 range_reads_refused m session range limit is_reverse snapshot transcript opened = (
-  both-ways _ _ _ (reads-refused m session operation transcript opened TransactionTooOld)
-      (range-forgot m transcript.read_version range),
-  λ whole. both-ways _ _ _ (reads-refused m session operation transcript opened FutureVersion)
-      (range-lags m transcript.read_version range whole),
-  both-ways _ _ _ answered_where (range-serves m transcript.read_version range),
-  λ empty. answered_where.1 ((range-serves m transcript.read_version range).1
-      (λ x inside. absurd (both_ways _ (in_range-empty range x empty) inside))),
+  as_shards TransactionTooOld (λ same. cc) _ (range-forgot m version range),
+  λ whole. as_shards FutureVersion (λ same. cc) _ (range-lags m version range whole),
+  both-ways _ _ _ (reads-refused m session operation transcript opened AccessedUnreadable)
+      (both-ways _ _ _ (where_hidden hidden (range_fault m version range) readable)
+      (both-parts _ _ _ _ (range-serves m version range) (some-unreadable ops scanned))),
+  both-ways _ _ _ answered_where (both-ways _ _ _ (where_open hidden (range_fault m version range))
+      (both-parts _ _ _ _ (range-serves m version range) (none-unreadable ops scanned))),
+  λ empty. answered_where.1 ((where_open hidden (range_fault m version range)).1 (
+    (range-serves m version range).1 (λ x inside. absurd (both_ways _ (in_range-empty range x empty) inside)),
+    (none-unreadable ops scanned).1 (λ x inside. absurd (both_ways _ (in_range-empty range x empty)
+        (subst (λ (part : Range). in_range part x ≡ true)
+        (scanned-empty (copy (map_read m transcript) ops) range limit is_reverse empty) inside))),
+  )),
 )
   where
     operation : Op
     operation = op.Range range limit is_reverse snapshot
 
+    version : ℕ
+    version = transcript.read_version
+
+    ops : List Op
+    ops = program transcript.ops
+
+    scanned : Range
+    scanned = scanned_by m transcript range limit is_reverse
+
+    hidden : Bool
+    hidden = unreadable_in ops scanned
+
+    readable : range_fault m version range ≡ Some AccessedUnreadable → ⊥
+    readable refused =
+        let one = faulty-point m version range AccessedUnreadable refused in
+        readable-shard m version (holder m version range one.0) one.2
+
+    scan : Bool → Option Refusal
+    scan there = if there then Some AccessedUnreadable else None
+
+    both-parts : (P Q R S : Type 0) → P ↔ R → Q ↔ S → (P × Q) ↔ (R × S)
+    both-parts P Q R S first second =
+        ((λ both. (first.0 both.0, second.0 both.1)), (λ both. (first.1 both.0, second.1 both.1)))
+
+    where_hidden : (there : Bool) (fault : Option Refusal) → (fault ≡ Some AccessedUnreadable → ⊥)
+        → (option_or fault (scan there) ≡ Some AccessedUnreadable) ↔ ((fault ≡ None) × (there ≡ true))
+    where_hidden true None never = ((λ faulty. (refl, refl)), (λ both. refl))
+    where_hidden false None never = ((λ faulty. cc), (λ both. let h = both.1 in cc))
+    where_hidden there (Some why) never = ((λ faulty. absurd (never faulty)), (λ both. let h = both.0 in cc))
+
+    where_open : (there : Bool) (fault : Option Refusal)
+        → (option_or fault (scan there) ≡ None) ↔ ((fault ≡ None) × (there ≡ false))
+    where_open true None = ((λ faultless. cc), (λ both. let h = both.1 in cc))
+    where_open false None = ((λ faultless. (refl, refl)), (λ both. refl))
+    where_open there (Some why) = ((λ faultless. cc), (λ both. let h = both.0 in cc))
+
+    unless_hidden : (why : Refusal) → (why ≡ AccessedUnreadable → ⊥) → (there : Bool) (fault : Option Refusal)
+        → (option_or fault (scan there) ≡ Some why) ↔ (fault ≡ Some why)
+    unless_hidden why other true None = ((λ faulty. absurd (other (cc faulty))), (λ faulty. cc))
+    unless_hidden why other false None = ((λ faulty. faulty), (λ faulty. faulty))
+    unless_hidden why other there (Some first) = ((λ faulty. faulty), (λ faulty. faulty))
+
+    as_shards : (why : Refusal) → (why ≡ AccessedUnreadable → ⊥) → (P : Type 0)
+        → (range_fault m version range ≡ Some why) ↔ P → (reads m session operation ≡ Err why) ↔ P
+    as_shards why other P same = both-ways _ _ _ (reads-refused m session operation transcript opened why)
+        (both-ways _ _ _ (unless_hidden why other hidden (range_fault m version range)) same)
+
     answered_where : ((transition : Transition) × (reads m session operation ≡ Ok transition))
-        ↔ (range_fault m transcript.read_version range ≡ None)
+        ↔ (fault_after m transcript operation ≡ None)
     answered_where = (
-      (λ accepted. by_fault accepted (range_fault m transcript.read_version range) refl),
+      (λ accepted. by_fault accepted (fault_after m transcript operation) refl),
       (λ faultless. (_, reads-transition m session operation transcript opened faultless)),
     )
       where
         by_fault : (transition : Transition) × (reads m session operation ≡ Ok transition)
-            → (fault : Option Refusal) → range_fault m transcript.read_version range ≡ fault → fault ≡ None
+            → (fault : Option Refusal) → fault_after m transcript operation ≡ fault → fault ≡ None
         by_fault accepted None is = refl
         by_fault accepted (Some why) is =
             let refused = (reads-refused m session operation transcript opened why).1 is in

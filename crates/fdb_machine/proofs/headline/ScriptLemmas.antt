@@ -18,6 +18,7 @@ use Rattle.fdb_txn.specs.book.Book.{Place, seen_of, seen_before}
 use Rattle.fdb_txn.specs.book.Size.{size_fault}
 use Rattle.fdb_txn.specs.rules.Admission.{committed}
 use Rattle.fdb_txn.specs.rules.SerialMap.{serial_map, up_to}
+use Rattle.fdb_txn.specs.rules.Stamped.{stamped_at}
 use Rattle.fdb_txn.proofs.Exports.{get-effects}
 use Rattle.fdb_proxy.specs.Verdicts.{outcomes_on}
 use Rattle.fdb_proxy.specs.declared.config.Config.{Config}
@@ -121,8 +122,7 @@ none_left-is known (number ∷ numbers) =
 abbrev value_in_run : List Point → Point → List Place → Option (List ℕ)
 value_in_run splits x [] = None
 value_in_run splits x (place ∷ earlier) =
-    if committed splits earlier place then fold (value_after x) (value_in_run splits x earlier)
-    place.transaction.mutations
+    if committed splits earlier place then fold (value_after x) (value_in_run splits x earlier) (stamped_at place)
     else value_in_run splits x earlier
 
 value_in_run-is : (splits : List Point) (x : Point) (places : List Place)
@@ -132,13 +132,13 @@ value_in_run-is splits x (place ∷ earlier) =
     by_commit (committed splits earlier place) (value_in_run-is splits x earlier)
   where
     by_commit : (commits : Bool) → get (serial_map splits earlier) x ≡ value_in_run splits x earlier
-        → get (if commits then effects (serial_map splits earlier) place.transaction.mutations
+        → get (if commits then effects (serial_map splits earlier) (stamped_at place)
         else serial_map splits earlier) x
-        ≡ (if commits then fold (value_after x) (value_in_run splits x earlier) place.transaction.mutations
+        ≡ (if commits then fold (value_after x) (value_in_run splits x earlier) (stamped_at place)
         else value_in_run splits x earlier)
     by_commit true same =
-        get-effects (serial_map splits earlier) place.transaction.mutations x
-        ∙ ap (λ (value : Option (List ℕ)). fold (value_after x) value place.transaction.mutations) same
+        get-effects (serial_map splits earlier) (stamped_at place) x
+        ∙ ap (λ (value : Option (List ℕ)). fold (value_after x) value (stamped_at place)) same
     by_commit false same = same
 
 -- the reply to a read of a key by an open transaction

@@ -96,7 +96,7 @@ logged_steps = record {
   };
   asked = λ m session proxy there at free logged. same logged;
   granted = λ m proxy there at left logged. same logged;
-  operated = λ m taken session transcript operation does opened logged. same logged;
+  operated = λ m taken session transcript operation does opened allowed logged. same logged;
   read_only = λ m session proxy transcript opened empty logged. record {
     commit_proxies = logged.commit_proxies;
     acknowledged = all-push (PlacedTaken m.logs) m.acknowledged _ logged.acknowledged tt;

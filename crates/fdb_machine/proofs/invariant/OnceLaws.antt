@@ -198,8 +198,8 @@ module _ (id : TxnId) where
       session_steps.granted m proxy there at left once.0,
       granted-once m proxy there at left once,
     );
-    operated = λ m one_step session transcript operation does opened once. (
-      session_steps.operated m one_step session transcript operation does opened once.0,
+    operated = λ m one_step session transcript operation does opened allowed once. (
+      session_steps.operated m one_step session transcript operation does opened allowed once.0,
       changed-once m session (Open (with_op transcript operation _)) m.book m.commit_proxies once.1
           (λ same. omega (
             arith,

@@ -202,7 +202,7 @@ module _ (P : Sessions → TxnId → ℕ → Type 0) (low : ℕ) where
           (kept.0, put-kept m.sessions session Asking m.commit_proxies m.acknowledged kept.1 tt);
       granted = λ m proxy there at left kept.
           (kept.0, served-kept m.committed kept.0 there m.sessions m.commit_proxies m.acknowledged kept.1);
-      operated = λ m one_step session transcript operation does opened kept. (
+      operated = λ m one_step session transcript operation does opened allowed kept. (
         kept.0,
         put-kept m.sessions session (Open (with_op transcript operation _)) m.commit_proxies m.acknowledged
             kept.1 (opened-has m kept session transcript opened),

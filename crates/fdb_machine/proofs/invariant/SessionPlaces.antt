@@ -252,7 +252,7 @@ session_steps = record {
   asked = λ m asker proxy there at free all.
       (λ session. asked-stands session m asker proxy there at free (all.0 session), all.1);
   granted = λ m proxy there at left all. (λ session. granted-stands session m proxy there at (all.0 session), all.1);
-  operated = λ m one_step client transcript operation does opened all. (
+  operated = λ m one_step client transcript operation does opened allowed all. (
     λ session. opened-stands session m client transcript (Open (with_op transcript operation _)) opened
         (all.0 session)
         (λ same. open-own m client transcript (all.0 client) opened ∙ same) refl,

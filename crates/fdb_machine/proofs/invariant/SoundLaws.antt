@@ -221,12 +221,12 @@ sound_steps = record {
       (open-served (IsReplied m) m.committed (λ id. (le_refl m.committed, refl)) there m.sessions sound.opened)
       sound.commit_proxies sound.acknowledged sound.reported
       (λ id. (once_steps id).granted m proxy there at left (sound.once id));
-  operated = λ m one_step session transcript operation does opened sound.
+  operated = λ m one_step session transcript operation does opened allowed sound.
       same_book m sound
       (open-put (IsReplied m) m.sessions session (Open (with_op transcript operation _)) sound.opened
       (told-push m transcript operation _ refl (opened-at m sound session transcript opened)))
       sound.commit_proxies sound.acknowledged sound.reported
-      (λ id. (once_steps id).operated m one_step session transcript operation does opened (sound.once id));
+      (λ id. (once_steps id).operated m one_step session transcript operation does opened allowed (sound.once id));
   read_only = λ m session proxy transcript opened empty sound.
       let told = opened-at m sound session transcript opened in
       same_book m sound (open-put (IsReplied m) m.sessions session Idle sound.opened tt) sound.commit_proxies

@@ -103,9 +103,11 @@ pub record HoldsOfSteps (R : Machine → Step → Answered → Machine → Type 
         sessions = fold (serve m.committed) m.sessions there;
         grv_proxies = slice_set m.grv_proxies proxy [];
       })
-  -- an operation went to a session's open transaction, with its reply (Get, GetRange, Write, AddRead, AddWrite)
+  -- an operation that isn't refused went to a session's open transaction, with its reply (Get, GetRange, Write,
+  -- AddRead, AddWrite)
   pub operated : (m : Machine) (one_step : Step) (session : ℕ) (transcript : Transcript) (operation : Op)
       → operation_of one_step ≡ Some (session, operation) → open_at m.sessions session ≡ Some transcript
+      → fault_after m transcript operation ≡ None
       → let there = serial_map_at m.config.resolver_splits transcript.read_version (seen_of m.book).places in
       let reply = reply_on (copy there (program transcript.ops)) operation in
       R m one_step (answered_by reply) (add_operation m session transcript operation reply)
@@ -229,7 +231,7 @@ module _ (R : Machine → Step → Answered → Machine → Type 0) (holds : Hol
   reads-operated m one_step session operation is =
       past-open _ (open_at m.sessions session) _ (λ transcript opened.
       past-fault _ (fault_after m transcript operation) _
-      (λ _. holds.operated m one_step session transcript operation is opened))
+      (holds.operated m one_step session transcript operation is opened))
 
   -- it holds of every accepted step
   pub holds-next : (m : Machine) (one_step : Step) → IfAccepted (Leads m one_step) (next m one_step)
@@ -251,13 +253,13 @@ module _ (R : Machine → Step → Answered → Machine → Type 0) (holds : Hol
   holds-next m (step.Write session mutation) =
       past-open _ (open_at m.sessions session) _ (λ transcript opened.
       past-fault _ (mutation_fault mutation) _ (λ _.
-      holds.operated m (step.Write session mutation) session transcript (op.Write mutation) refl opened))
+      holds.operated m (step.Write session mutation) session transcript (op.Write mutation) refl opened refl))
   holds-next m (step.AddRead session range) =
       past-open _ (open_at m.sessions session) _ (λ transcript opened.
-      holds.operated m (step.AddRead session range) session transcript (op.AddRead range) refl opened)
+      holds.operated m (step.AddRead session range) session transcript (op.AddRead range) refl opened refl)
   holds-next m (step.AddWrite session range) =
       past-open _ (open_at m.sessions session) _ (λ transcript opened.
-      holds.operated m (step.AddWrite session range) session transcript (op.AddWrite range) refl opened)
+      holds.operated m (step.AddWrite session range) session transcript (op.AddWrite range) refl opened refl)
   holds-next m (step.Submit session proxy) =
       past-found _ (slice_get m.commit_proxies proxy) _ (λ commit_proxy at.
       past-open _ (open_at m.sessions session) _ (λ transcript opened.

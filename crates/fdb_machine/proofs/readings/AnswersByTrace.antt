@@ -1,12 +1,13 @@
 -- Each accepted step is answered by what the trace told before.
-use Rattle.std.proofs.Common.{◌≡◌, ◌∙◌, refl, sym, ap, subst, ⊎_elim, ℕ, max, List, [], ◌∷◌, map, length, take, Some}
+use Rattle.std.proofs.Common.{◌≡◌, ◌∙◌, refl, sym, ap, subst, ⊎_elim, ℕ, max, Bool, true, false, not, List, []}
+use Rattle.std.proofs.Common.{◌∷◌, map, length, take, Some}
 use Rattle.std.proofs.Common.{Result, Ok, Err}
 use Rattle.std.specs.List.{AllByRecursion, slice_get}
 use Rattle.std.specs.FinMap.{get}
 use Rattle.std.proofs.lemmas.Option.{same_Some}
 use Rattle.fdb_keys.specs.declared.refusal.Refusal.{Refusal}
 use Rattle.fdb_keys.specs.Points.{Point}
-use Rattle.fdb_mutations.specs.PairLaws.{given_of}
+use Rattle.fdb_mutations.specs.PairLaws.{given_of, scanned_of}
 use Rattle.fdb_txn.specs.Limits.{place_limit}
 use Rattle.fdb_txn.specs.declared.entry.Entry.{Entry}
 use Rattle.fdb_txn.specs.book.Book.{seen_of, last_version, seen_before}
@@ -18,6 +19,7 @@ use Rattle.fdb_client.specs.declared.program.Op.{Op}
 use Rattle.fdb_client.specs.declared.program.Op.TheVariants as op
 use Rattle.fdb_client.specs.declared.program.Transcript.{Transcript}
 use Rattle.fdb_client.specs.Programs.{program, copy, reply_on, commit_request_of}
+use Rattle.fdb_client.specs.Unreadable.{reads_readable, unreadable_in}
 use Rattle.fdb_roles.proofs.Exports.{all-at}
 use Rattle.fdb_machine.specs.headline.Answers.{IsAnswered, AreReplies, HasOpened, AnsweredByTheTrace}
 use Rattle.fdb_machine.specs.headline.Readings.{Readings, SealedBatch, read, readings_of}
@@ -37,6 +39,7 @@ use Rattle.fdb_machine.proofs.invariant.SoundLaws.{sound_steps, sound-trace}
 use Rattle.fdb_machine.proofs.invariant.SoundLemmas.{sessions-stand}
 use Rattle.fdb_machine.proofs.machine.AcceptedTransitions.{IfAccepted}
 use Rattle.fdb_machine.proofs.machine.Steps.{HoldsOfSteps, holds-next, kept-by_trace, operation_of}
+use Rattle.fdb_machine.proofs.machine.UnreadableLemmas.{allowed-readable}
 use Rattle.fdb_machine.proofs.readings.Agreement.{TellsMachine}
 use Rattle.fdb_machine.proofs.readings.SessionLists.{found-told}
 use Rattle.fdb_machine.proofs.readings.AnswerReplies.{replies-of}
@@ -60,26 +63,36 @@ all-granted : (version reported : ℕ) (sessions : List ℕ) → version ≡ rep
 all-granted version reported [] same = tt
 all-granted version reported (session ∷ sessions) same = (same, all-granted version reported sessions same)
 
+-- what is readable isn't unreadable
+readable-key : {hidden : Bool} → not hidden ≡ true → hidden ≡ false
+readable-key {hidden = true} is = cc
+readable-key {hidden = false} is = refl
+
 -- an operation is replied from the map at the read version
 operation-answered : (config : Config) (r : Readings) (book : List Entry) (taken : Step) (session : ℕ)
     (operation : Op) (transcript : Transcript)
     → r.book ≡ book → HasOpened r session transcript → operation_of taken ≡ Some (session, operation)
+    → reads_readable (serial_map_at config.resolver_splits transcript.read_version (seen_of book).places)
+    (program transcript.ops) operation ≡ true
     → IsAnswered config r taken (answered_by (reply_on
     (copy (serial_map_at config.resolver_splits transcript.read_version (seen_of book).places)
     (program transcript.ops)) operation))
-operation-answered config r book (step.Get own key snapshot) session operation transcript same opened is =
+operation-answered config r book (step.Get own key snapshot) session operation transcript same opened is readable =
     let done = same_Some (own, op.Get key snapshot) (session, operation) is in
     subst (λ (pair : ℕ × Op). IsAnswered config r (step.Get own key snapshot) (answered_by (reply_on
     (copy (serial_map_at config.resolver_splits transcript.read_version (seen_of book).places)
     (program transcript.ops)) pair.1))) done (
       transcript,
       subst (λ (s : ℕ). HasOpened r s transcript) (sym (ap (λ (pair : ℕ × Op). pair.0) done)) opened,
+      readable-key (subst (λ (pair : ℕ × Op). reads_readable
+          (serial_map_at config.resolver_splits transcript.read_version (seen_of book).places)
+          (program transcript.ops) pair.1 ≡ true) (sym done) readable),
       ap (λ (b : List Entry). get
           (copy (serial_map_at config.resolver_splits transcript.read_version (seen_of b).places)
           (program transcript.ops)) key) (sym same),
     )
 operation-answered config r book (step.GetRange own range limit is_reverse snapshot) session operation transcript same
-    opened is =
+    opened is readable =
     let done = same_Some (own, op.Range range limit is_reverse snapshot) (session, operation) is in
     subst (λ (pair : ℕ × Op). IsAnswered config r (step.GetRange own range limit is_reverse snapshot)
     (answered_by (reply_on
@@ -87,38 +100,46 @@ operation-answered config r book (step.GetRange own range limit is_reverse snaps
     (program transcript.ops)) pair.1))) done (
       transcript,
       subst (λ (s : ℕ). HasOpened r s transcript) (sym (ap (λ (pair : ℕ × Op). pair.0) done)) opened,
-      ap (λ (b : List Entry). given_of
-          (copy (serial_map_at config.resolver_splits transcript.read_version (seen_of b).places)
-          (program transcript.ops)) range limit is_reverse) (sym same),
+      (
+        subst (λ (b : List Entry). unreadable_in (program transcript.ops) (scanned_of
+            (copy (serial_map_at config.resolver_splits transcript.read_version (seen_of b).places)
+            (program transcript.ops)) range limit is_reverse) ≡ false) (sym same)
+            (readable-key (subst (λ (pair : ℕ × Op). reads_readable
+            (serial_map_at config.resolver_splits transcript.read_version (seen_of book).places)
+            (program transcript.ops) pair.1 ≡ true) (sym done) readable)),
+        ap (λ (b : List Entry). given_of
+            (copy (serial_map_at config.resolver_splits transcript.read_version (seen_of b).places)
+            (program transcript.ops)) range limit is_reverse) (sym same),
+      ),
     )
-operation-answered config r book (step.Write own mutation) session operation transcript same opened is =
+operation-answered config r book (step.Write own mutation) session operation transcript same opened is readable =
     subst (λ (pair : ℕ × Op). IsAnswered config r (step.Write own mutation) (answered_by (reply_on
     (copy (serial_map_at config.resolver_splits transcript.read_version (seen_of book).places)
     (program transcript.ops)) pair.1))) (same_Some (own, op.Write mutation) (session, operation) is) refl
-operation-answered config r book (step.AddRead own range) session operation transcript same opened is =
+operation-answered config r book (step.AddRead own range) session operation transcript same opened is readable =
     subst (λ (pair : ℕ × Op). IsAnswered config r (step.AddRead own range) (answered_by (reply_on
     (copy (serial_map_at config.resolver_splits transcript.read_version (seen_of book).places)
     (program transcript.ops)) pair.1))) (same_Some (own, op.AddRead range) (session, operation) is) refl
-operation-answered config r book (step.AddWrite own range) session operation transcript same opened is =
+operation-answered config r book (step.AddWrite own range) session operation transcript same opened is readable =
     subst (λ (pair : ℕ × Op). IsAnswered config r (step.AddWrite own range) (answered_by (reply_on
     (copy (serial_map_at config.resolver_splits transcript.read_version (seen_of book).places)
     (program transcript.ops)) pair.1))) (same_Some (own, op.AddWrite range) (session, operation) is) refl
-operation-answered config r book (step.Ask own proxy) session operation transcript same opened is = cc
-operation-answered config r book (step.Grant proxy) session operation transcript same opened is = cc
-operation-answered config r book (step.Submit own proxy) session operation transcript same opened is = cc
-operation-answered config r book (step.Seal proxy advance) session operation transcript same opened is = cc
-operation-answered config r book (step.Resolve i resolver) session operation transcript same opened is = cc
-operation-answered config r book (step.Verdict i resolver) session operation transcript same opened is = cc
-operation-answered config r book (step.Decide proxy) session operation transcript same opened is = cc
-operation-answered config r book (step.Push i log) session operation transcript same opened is = cc
-operation-answered config r book (step.Logged i log) session operation transcript same opened is = cc
-operation-answered config r book (step.Report proxy) session operation transcript same opened is = cc
-operation-answered config r book (step.Answer proxy) session operation transcript same opened is = cc
-operation-answered config r book (step.Pull shard limit) session operation transcript same opened is = cc
-operation-answered config r book (step.Forget shard version) session operation transcript same opened is = cc
-operation-answered config r book (step.Pop shard) session operation transcript same opened is = cc
-operation-answered config r book (step.Move range to) session operation transcript same opened is = cc
-operation-answered config r book (step.Window window) session operation transcript same opened is = cc
+operation-answered config r book (step.Ask own proxy) session operation transcript same opened is readable = cc
+operation-answered config r book (step.Grant proxy) session operation transcript same opened is readable = cc
+operation-answered config r book (step.Submit own proxy) session operation transcript same opened is readable = cc
+operation-answered config r book (step.Seal proxy advance) session operation transcript same opened is readable = cc
+operation-answered config r book (step.Resolve i resolver) session operation transcript same opened is readable = cc
+operation-answered config r book (step.Verdict i resolver) session operation transcript same opened is readable = cc
+operation-answered config r book (step.Decide proxy) session operation transcript same opened is readable = cc
+operation-answered config r book (step.Push i log) session operation transcript same opened is readable = cc
+operation-answered config r book (step.Logged i log) session operation transcript same opened is readable = cc
+operation-answered config r book (step.Report proxy) session operation transcript same opened is readable = cc
+operation-answered config r book (step.Answer proxy) session operation transcript same opened is readable = cc
+operation-answered config r book (step.Pull shard limit) session operation transcript same opened is readable = cc
+operation-answered config r book (step.Forget shard version) session operation transcript same opened is readable = cc
+operation-answered config r book (step.Pop shard) session operation transcript same opened is readable = cc
+operation-answered config r book (step.Move range to) session operation transcript same opened is readable = cc
+operation-answered config r book (step.Window window) session operation transcript same opened is readable = cc
 
 -- the clients of a batch are told what became of their transactions
 all-told : (m : Machine) (proxy : ℕ) (commit_proxy : CommitProxy) (entry : Entry)
@@ -163,9 +184,10 @@ answered_steps = record {
   asked = λ m session proxy there at free r has sound tells told. refl;
   granted = λ m proxy there at left r has sound tells told. all-granted m.committed r.reported there
       (sym tells.reported_told);
-  operated = λ m taken session transcript operation does opened r has sound tells told.
+  operated = λ m taken session transcript operation does opened allowed r has sound tells told.
       operation-answered m.config r m.book taken session operation transcript tells.book_told
-      (found-told r.opened m.sessions tells.opened_told session transcript opened) does;
+      (found-told r.opened m.sessions tells.opened_told session transcript opened) does
+      (allowed-readable m transcript operation allowed);
   read_only = λ m session proxy transcript opened empty r has sound tells told. (
     transcript,
     found-told r.opened m.sessions tells.opened_told session transcript opened,

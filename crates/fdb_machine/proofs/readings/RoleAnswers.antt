@@ -95,7 +95,7 @@ roles_stay = record {
       record { resolvers = counts.0 ∙ has.resolvers; logs = counts.1 ∙ has.logs };
   asked = λ m session proxy there at free has. same-roles refl refl refl has;
   granted = λ m proxy there at left has. same-roles refl refl refl has;
-  operated = λ m one_step session transcript operation does opened has. same-roles refl refl refl has;
+  operated = λ m one_step session transcript operation does opened allowed has. same-roles refl refl refl has;
   read_only = λ m session proxy transcript opened empty has. same-roles refl refl refl has;
   submitted = λ m session proxy commit_proxy transcript at opened writes has. same-roles refl refl refl has;
   sealed = λ m proxy advance commit_proxy at idle few room has. same-roles refl refl refl has;

@@ -749,7 +749,7 @@ roles_tell_steps = record {
       subst (λ (p : Progress). RolesTold p m.book m.entry_proxies m.decided m.commit_proxies m.resolvers m.logs
       m.shards)
       (sym (begins-progress (map (λ (session : ℕ). (session, m.committed)) there) r)) told;
-  operated = λ m one_step session transcript operation does opened r sound tells told.
+  operated = λ m one_step session transcript operation does opened allowed r sound tells told.
       subst (λ (p : Progress). RolesTold p m.book m.entry_proxies m.decided m.commit_proxies m.resolvers m.logs
       m.shards)
       (ap (λ (now : Readings). now.progress) (operation-tells r one_step session operation _ does)) told;

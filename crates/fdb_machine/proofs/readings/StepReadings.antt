@@ -250,7 +250,7 @@ tells_steps = record {
           able session m.sessions there left some,
         ),
       ));
-  operated = λ m one_step session transcript operation does opened r sound tells.
+  operated = λ m one_step session transcript operation does opened allowed r sound tells.
       let on = copy (serial_map_at m.config.resolver_splits transcript.read_version (seen_of m.book).places)
       (program transcript.ops) in
       let after = add_operation m session transcript operation (reply_on on operation) in

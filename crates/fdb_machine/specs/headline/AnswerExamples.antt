@@ -24,7 +24,8 @@ abbrev pub IsDueAfter : List Line → ℕ → Step → Type 0
 IsDueAfter lines count one_step = IsDue (parted_at_m 1) (told_by count lines) one_step
 
 -- Neither a version that is older than the greatest reported one, nor another version, number or count than the next
--- entry has, nor one that a shard doesn't come to, nor a floor that sinks or that the shard hasn't reached.
+-- entry has, nor one that a shard doesn't come to, nor a floor that sinks or that the shard hasn't reached. No window
+-- is taken that has no versions or too many.
 abbrev pub OtherVersionsAreNoAnswers : Type 0
 OtherVersionsAreNoAnswers =
     IsNoAnswer freshness 16 (step.Grant 0) (answered.Granted ((2, 0) ∷ []))
@@ -39,6 +40,9 @@ OtherVersionsAreNoAnswers =
     × IsNoAnswer freshness 19 (step.Forget 0 0) (answered.Version 100)
     × IsNoAnswer freshness 19 (step.Forget 0 101) (answered.Version 101)
     × IsNoAnswer freshness 21 (step.Submit 2 0) (answered.ReadOnly 0)
+    × IsNoAnswer freshness 0 (step.Window 0) answered.Done
+    × IsNoAnswer freshness 0 (step.Window 5000001) answered.Done
+    × IsNoAnswer freshness 0 (step.Window 5) (answered.Version 5)
 
 -- What a resolver says of the two places: not that the second one doesn't conflict, nor of one place alone, nor of them
 -- in another order; and nothing of an entry whose turn it isn't.

@@ -6,7 +6,7 @@ use Rattle.std.specs.FinMap.{get}
 use Rattle.fdb_keys.specs.declared.refusal.Refusal.{Refusal}
 use Rattle.fdb_keys.specs.Points.{Point}
 use Rattle.fdb_keys.specs.Ranges.{Range}
-use Rattle.fdb_mutations.specs.PairLaws.{given_of}
+use Rattle.fdb_mutations.specs.PairLaws.{given_of, scanned_of}
 use Rattle.fdb_txn.specs.Limits.{place_limit, window}
 use Rattle.fdb_txn.specs.declared.entry.Entry.{Entry}
 use Rattle.fdb_txn.specs.declared.spot.Spot.TheVariants as spot
@@ -23,6 +23,7 @@ use Rattle.fdb_proxy.specs.declared.config.Config.{Config}
 use Rattle.fdb_proxy.specs.declared.outcome.Outcome.{Outcome}
 use Rattle.fdb_client.specs.declared.program.Transcript.{Transcript}
 use Rattle.fdb_client.specs.Programs.{program, copy, commit_request_of}
+use Rattle.fdb_client.specs.Unreadable.{unreadable, unreadable_in}
 use Rattle.fdb_roles.specs.Spots.{WroteNothing}
 use Rattle.fdb_roles.specs.Outcomes.{IsByRule}
 use Rattle.fdb_roles.specs.declared.placed.Placed.{Placed}
@@ -142,19 +143,22 @@ module _ (config : Config) (r : Readings) where
       version ≡ last_version (take (min has (entries_of_shard shard + limit)) r.book)
 
   -- A read answers what stands at the key after the transaction's own operations, executed on the serial map at its
-  -- read version.
+  -- read version. These don't leave the key unreadable.
   abbrev pub IsRead : ℕ → List ℕ → Option (List ℕ) → Type 0
   IsRead session key value =
-      (transcript : Transcript) × HasOpened r session transcript × (value ≡ get
+      (transcript : Transcript) × HasOpened r session transcript
+      × (unreadable (program transcript.ops) key ≡ false) × (value ≡ get
       (copy (serial_map_at splits transcript.read_version (seen_of r.book).places) (program transcript.ops)) key)
 
   -- A read of a range answers its pairs after the transaction's own operations, executed on the serial map at its read
-  -- version.
+  -- version. These leave no key unreadable of what it scans there.
   abbrev pub IsReadRange : ℕ → Range → ℕ → Bool → List (Point × List ℕ) → Type 0
   IsReadRange session range limit is_reverse pairs =
-      (transcript : Transcript) × HasOpened r session transcript × (pairs ≡ given_of
-      (copy (serial_map_at splits transcript.read_version (seen_of r.book).places) (program transcript.ops)) range limit
-      is_reverse)
+      (transcript : Transcript) × HasOpened r session transcript
+      × (let copied = copy (serial_map_at splits transcript.read_version (seen_of r.book).places)
+      (program transcript.ops) in
+      (unreadable_in (program transcript.ops) (scanned_of copied range limit is_reverse) ≡ false)
+      × (pairs ≡ given_of copied range limit is_reverse))
 
   -- a transaction that is done when it is submitted wrote nothing, and is told its read version
   abbrev pub IsReadOnly : ℕ → ℕ → Type 0

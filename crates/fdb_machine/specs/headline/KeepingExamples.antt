@@ -117,7 +117,7 @@ abbrev pub OtherResolversAreInNoWorld : Type 0
 OtherResolversAreInNoWorld =
     IsNoWorld (with_resolver (record resolver { index = 1 }))
     × IsNoWorld (with_resolver (record resolver { last = 0 }))
-    × IsNoWorld (with_resolver (record resolver { versions = record { floor = 0; breaks = (codes "a", 100) ∷ [] } }))
+    × IsNoWorld (with_resolver (record resolver { versions = record { floor = 0; breaks = (codes "a", 1) ∷ [] } }))
     × IsNoWorld (record (with_failed world (record (none_failed plain) { resolvers = [] })) { resolvers = [] })
     × (ResolverKeeps (record (start plain) { book = two_in_one_entry }) 0 1 resolver → ⊥)
 

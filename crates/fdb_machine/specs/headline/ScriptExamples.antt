@@ -1,9 +1,9 @@
 -- Whole scripts, each a list of steps beside their answers: what every step of a world has to answer in them.
-use Rattle.std.specs.Prelude.{ℕ, false, List, [], ◌∷◌, ◌++◌, map, Option, Some, None, Result, Ok, Err, codes}
+use Rattle.std.specs.Prelude.{ℕ, true, false, List, [], ◌∷◌, ◌++◌, map, Option, Some, None, Result, Ok, Err, codes}
 use Rattle.fdb_keys.specs.Points.{Point}
 use Rattle.fdb_keys.specs.declared.refusal.Refusal.{Refusal}
 use Rattle.fdb_keys.specs.declared.refusal.Refusal.TheVariants as refusal
-use Rattle.fdb_mutations.specs.declared.mutation.Mutation.TheVariants.{Set}
+use Rattle.fdb_mutations.specs.declared.mutation.Mutation.TheVariants.{Set, Clear, Stamped}
 use Rattle.fdb_resolver.specs.declared.verdict.Verdict.{Verdict}
 use Rattle.fdb_resolver.specs.declared.verdict.Verdict.TheVariants as verdict
 use Rattle.fdb_proxy.specs.declared.config.Config.{Config}
@@ -190,6 +190,30 @@ window_that_grows_again =
     ++ done (step.Window 5000000) ∷ submits 2 ∷ sealed 1 3 252 251 1
     ∷ driven 3 ((0, verdict.Old) ∷ []) [] (outcome.Old ∷ []) 252 ((2, outcome.Old) ∷ [])
 
+-- the version 100 and the number of a place, as a stamp
+abbrev pub stamp_of : ℕ → List ℕ
+stamp_of place = 0 ∷ 0 ∷ 0 ∷ 0 ∷ 0 ∷ 0 ∷ 0 ∷ 100 ∷ 0 ∷ place ∷ []
+
+-- Two of one batch write stamped values. An offset at which no stamp fits is refused. The keys are unreadable to the
+-- transactions themselves, until a clear names one; others read them with the stamps of the places.
+abbrev pub versionstamps : List Line
+versionstamps =
+    asks 0 ∷ asks 1 ∷ granted ((0, 0) ∷ (1, 0) ∷ [])
+    ∷ refused (step.Write 0 (Stamped (codes "a") (codes "x0123456789y") 3)) refusal.BadOperand
+    ∷ done (step.Write 0 (Stamped (codes "a") (codes "x0123456789y") 1)) ∷ sets 0 (codes "A") (codes "1")
+    ∷ refused (step.Get 0 (codes "a") false) refusal.AccessedUnreadable
+    ∷ refused (step.Get 0 (codes "a") true) refusal.AccessedUnreadable
+    ∷ done (step.Write 1 (Stamped (codes "c") (codes "0123456789") 0))
+    ∷ done (step.Write 1 (Stamped (codes "d") (codes "0123456789") 0))
+    ∷ done (step.Write 1 (Clear (codes "d"))) ∷ reads 1 (codes "d") None
+    ∷ submits 0 ∷ submits 1 ∷ sealed 100 0 100 0 2
+    ∷ driven 0 ((0, verdict.Yes) ∷ (1, verdict.Yes) ∷ []) []
+    (outcome.Commit 100 0 ∷ outcome.Commit 100 1 ∷ []) 100
+    ((0, outcome.Commit 100 0) ∷ (1, outcome.Commit 100 1) ∷ [])
+    ++ asks 2 ∷ granted ((2, 100) ∷ []) ∷ gives (step.Pull 0 9) (answered.Version 100)
+    ∷ reads 2 (codes "a") (Some (codes "x" ++ stamp_of 0 ++ codes "y"))
+    ∷ reads 2 (codes "c") (Some (stamp_of 1)) ∷ reads 2 (codes "d") None ∷ []
+
 -- a session asks at either proxy, is served there, sets a key and submits there
 abbrev pub sets_at : ℕ → Point → List Line
 sets_at number key =
@@ -235,3 +259,4 @@ WorkedScriptsAreTraces =
     × IsScript (parted_at_m 2) order_and_repeats
     × IsScript (parted_at_m 2) reported_in_the_other_order
     × IsScript (parted_at_m 1) window_that_grows_again
+    × IsScript (parted_at_m 1) versionstamps

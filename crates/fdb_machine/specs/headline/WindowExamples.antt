@@ -1,8 +1,9 @@
 -- What the machine does where the window is set, and what is read of it.
-use Rattle.std.specs.Prelude.{◌≡◌, ℕ, List, [], ◌∷◌, map, Result, Ok, Err, take}
+use Rattle.std.specs.Prelude.{◌≡◌, ℕ, List, [], ◌∷◌, map, length, Result, Ok, Err, take}
 use Rattle.fdb_keys.specs.declared.refusal.Refusal.{Refusal}
 use Rattle.fdb_keys.specs.declared.refusal.Refusal.TheVariants.{BadConfig}
 use Rattle.fdb_txn.specs.declared.entry.Entry.{Entry}
+use Rattle.fdb_machine.specs.headline.ReadingExamples.{a_to_c}
 use Rattle.fdb_machine.specs.headline.Readings.{Readings, readings_of}
 use Rattle.fdb_machine.specs.headline.ScriptExamples.{parted_at_m}
 use Rattle.fdb_machine.specs.headline.Traces.{machine_of_trace}
@@ -38,7 +39,7 @@ horizons book = map (λ (entry : Entry). entry.horizon) book
 
 -- The window is the greatest one at first. One that is set holds from the next entry on: horizons rise with the
 -- versions, and the last one stays, which would fall since the window grew again. A window of nothing and one above the
--- greatest are refused.
+-- greatest are refused. What waits for the next entry goes on waiting.
 abbrev pub WindowsHoldFromTheNextEntry : Type 0
 WindowsHoldFromTheNextEntry =
     ((machine_after 2).window ≡ 5000000) × ((machine_after 3).window ≡ 150)
@@ -47,6 +48,8 @@ WindowsHoldFromTheNextEntry =
     × (answer_of (next (start (parted_at_m 4)) (step.Window 5000000)) ≡ Ok answered.Done)
     × (next (start (parted_at_m 4)) (step.Window 0) ≡ Err BadConfig)
     × (next (start (parted_at_m 4)) (step.Window 5000001) ≡ Err BadConfig)
+    × (length (machine_of_trace (parted_at_m 4) (step.Move a_to_c 1 ∷ step.Window 150 ∷ [])
+    (Ok answered.Done ∷ Ok answered.Done ∷ [])).pending ≡ 1)
 
 -- So they are read off the accepted steps, and none off a refused one.
 abbrev pub WindowsAreRead : Type 0

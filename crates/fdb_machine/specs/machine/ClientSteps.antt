@@ -8,6 +8,7 @@ use Rattle.fdb_keys.specs.declared.refusal.Refusal.TheVariants.{TransactionTooOl
 use Rattle.fdb_keys.specs.Points.{Point}
 use Rattle.fdb_keys.specs.Ranges.{Range, in_range}
 use Rattle.fdb_mutations.specs.declared.mutation.Mutation.{Mutation}
+use Rattle.fdb_mutations.specs.Maps.{Map}
 use Rattle.fdb_mutations.specs.Mutations.{mutation_fault}
 use Rattle.fdb_txn.specs.declared.spot.Spot.TheVariants as spot
 use Rattle.fdb_txn.specs.book.Book.{seen_of}
@@ -20,7 +21,8 @@ use Rattle.fdb_client.specs.declared.program.Reply.{Reply}
 use Rattle.fdb_client.specs.declared.program.Reply.TheVariants as reply
 use Rattle.fdb_client.specs.declared.program.Transcript.{Transcript}
 use Rattle.fdb_client.specs.TxnState.{with_op}
-use Rattle.fdb_client.specs.Programs.{program, copy, reply_on, decided, commit_request_of, is_read_only}
+use Rattle.fdb_client.specs.Programs.{program, copy, reply_on, commit_request_of, is_read_only}
+use Rattle.fdb_client.specs.Unreadable.{get_fault, range_read_fault}
 use Rattle.fdb_machine.specs.machine.Machine.{Machine, Transition, found, refused_by, with_open}
 use Rattle.fdb_machine.specs.machine.Sessions.{Idle, Open, Waiting, open_at, with_state}
 use Rattle.fdb_machine.specs.machine.RoleSteps.{shard_fault}
@@ -67,24 +69,28 @@ fault_among fault points =
 abbrev pub range_fault : Machine → ℕ → Range → Option Refusal
 range_fault m version range = fault_among (point_fault m version) (shard_begins m.config.shard_splits range)
 
--- why an operation is not executed after the earlier ones: a read of a key that these don't decide is refused as the
--- key is, and a read of a range as the range is, whatever its limit
-abbrev pub read_fault : (Point → Option Refusal) → (Range → Option Refusal) → List Op → Op → Option Refusal
-read_fault key_fault range_fault earlier (op.Get key snapshot) = if decided earlier key then None else key_fault key
-read_fault key_fault range_fault earlier (op.Range range limit is_reverse snapshot) = range_fault range
-read_fault key_fault range_fault earlier operation = None
+-- why an operation is not executed on a map after the earlier ones: a read of a key that these don't decide is refused
+-- as the key is, and a read of a range as the range is, whatever its limit; and no unreadable key is read
+abbrev pub read_fault : (Point → Option Refusal) → (Range → Option Refusal) → Map → List Op → Op → Option Refusal
+read_fault key_fault range_fault there earlier (op.Get key snapshot) = get_fault earlier key (key_fault key)
+read_fault key_fault range_fault there earlier (op.Range range limit is_reverse snapshot) =
+    range_read_fault there earlier range limit is_reverse (range_fault range)
+read_fault key_fault range_fault there earlier operation = None
+
+-- the map that a transaction reads
+abbrev pub map_read : Machine → Transcript → Map
+map_read m transcript = serial_map_at m.config.resolver_splits transcript.read_version (seen_of m.book).places
 
 -- why the operation is refused after those of the transaction
 abbrev pub fault_after : Machine → Transcript → Op → Option Refusal
 fault_after m transcript operation =
     let version = transcript.read_version in
-    read_fault (point_fault m version) (range_fault m version) (program transcript.ops) operation
+    read_fault (point_fault m version) (range_fault m version) (map_read m transcript) (program transcript.ops)
+    operation
 
 -- what the operation is replied after those of the transaction, on the map at its read version
 abbrev pub reply_after : Machine → Transcript → Op → Reply
-reply_after m transcript operation =
-    let there = serial_map_at m.config.resolver_splits transcript.read_version (seen_of m.book).places in
-    reply_on (copy there (program transcript.ops)) operation
+reply_after m transcript operation = reply_on (copy (map_read m transcript) (program transcript.ops)) operation
 
 -- Get and GetRange: the reply of the program run on the map at its read version.
 unfoldable pub reads : Machine → ℕ → Op → Result Transition Refusal

@@ -1,5 +1,6 @@
 -- What the words after a session's number write, and what they don't.
 use Rattle.std.proofs.Common.{◌≡◌, ◌≢◌, ℕ, ◌<◌, false, List, [], ◌∷◌, None, Some, Err, get_or, refl, ap, sym, ◌∙◌}
+use Rattle.std.proofs.Common.{subst}
 use Rattle.std.proofs.Common.{codes, arith}
 use Rattle.std.specs.Cmp.Lexicographic.{bytes_decides}
 use Rattle.std.proofs.lemmas.Bool.{both_ways}
@@ -8,7 +9,8 @@ use Rattle.fdb_keys.specs.Texts.{key_fault}
 use Rattle.fdb_mutations.specs.declared.mutation.Mutation.{Mutation}
 use Rattle.fdb_mutations.specs.declared.mutation.Mutation.TheVariants as made
 use Rattle.fdb_play.specs.script.Faults.{MatchFault, Reads}
-use Rattle.fdb_play.specs.script.Grammar.{WritesText, WritesOneText, WritesTwoTexts, WritesBounds, WritesMutation}
+use Rattle.fdb_play.specs.script.Grammar.{WritesText, WritesOne, WritesOneText, WritesTwoTexts, WritesBounds}
+use Rattle.fdb_play.specs.script.Grammar.{WritesMutation, WritesStamped}
 use Rattle.fdb_play.specs.script.Grammar.{bounds_fault, mutation_fault}
 use Rattle.fdb_play.specs.script.Operations.{operation_name, operation_on}
 use Rattle.fdb_play.specs.declared.script.fault.Fault.{Fault}
@@ -80,6 +82,8 @@ operation_back ByteMax words (made.ByteMax key operand) written = (key, operand,
 operation_back CompareAndClear words (made.CompareAndClear key operand) written = (key, operand, written)
 operation_back operation words (made.Clear key) written = absurd (both_ways false refl
     ((bytes_decides (operation_name operation) (codes "clear")).1 (first_of written.1)))
+operation_back operation words (made.Stamped key operand offset) written = absurd (both_ways false refl
+    ((bytes_decides (operation_name operation) (codes "stamped")).1 (first_of written.3)))
 operation_back operation words mutation written = absurd (both_ways false refl
     ((bytes_decides (operation_name operation) _).1 (first_of written.2)))
 
@@ -89,14 +93,26 @@ clear_range_back words (made.ClearRange range) written =
     (range, (written.0, written.1, after_first written.2, written.3, written.4))
 clear_range_back words (made.Clear key) written = absurd (both_ways false refl
     ((bytes_decides (codes "clearrange") (codes "clear")).1 (first_of written.1)))
+clear_range_back words (made.Stamped key operand offset) written = absurd (both_ways false refl
+    ((bytes_decides (codes "clearrange") (codes "stamped")).1 (first_of written.3)))
 clear_range_back words mutation written = absurd (both_ways false refl
     ((bytes_decides (codes "clearrange") _).1 (first_of written.2)))
 
 clear_back : (words : List (List ℕ)) (mutation : Mutation) → WritesMutation (codes "clear" ∷ words) mutation
     → (key : List ℕ) × WritesOneText words key
 clear_back words (made.Clear key) written = (key, (written.0, after_first written.1, written.2))
+clear_back words (made.Stamped key operand offset) written = absurd (both_ways false refl
+    ((bytes_decides (codes "clear") (codes "stamped")).1 (first_of written.3)))
 clear_back words mutation written = absurd (both_ways false refl
     ((bytes_decides (codes "clear") _).1 (first_of written.2)))
+
+stamped_back : (words : List (List ℕ)) (mutation : Mutation) → WritesMutation (codes "stamped" ∷ words) mutation
+    → (key : List ℕ) × (operand : List ℕ) × (offset : ℕ) × WritesStamped (codes "stamped" ∷ words) key operand offset
+stamped_back words (made.Stamped key operand offset) written = (key, operand, offset, written)
+stamped_back words (made.Clear key) written = absurd (both_ways false refl
+    ((bytes_decides (codes "stamped") (codes "clear")).1 (first_of written.1)))
+stamped_back words mutation written = absurd (both_ways false refl
+    ((bytes_decides (codes "stamped") _).1 (first_of written.2)))
 
 -- no mutation is written by no words, or by a word that names no kind
 pub no_words_no_mutation : (words : List (List ℕ)) → words ≡ [] → (mutation : Mutation)
@@ -105,21 +121,23 @@ no_words_no_mutation words none (made.Clear key) written = cc
 no_words_no_mutation words none mutation written = cc
 
 pub no_mutation : (word : List ℕ) (words : List (List ℕ)) → word ≢ codes "clear" → word ≢ codes "clearrange"
-    → ((operation : Operation) → word ≢ operation_name operation)
+    → word ≢ codes "stamped" → ((operation : Operation) → word ≢ operation_name operation)
     → (mutation : Mutation) → ¬ WritesMutation (word ∷ words) mutation
-no_mutation word words clear range none (made.Clear key) written = clear (first_of written.1)
-no_mutation word words clear range none (made.ClearRange cleared) written = range (first_of written.2)
-no_mutation word words clear range none (made.Set key operand) written = none Set (first_of written.2)
-no_mutation word words clear range none (made.Add key operand) written = none Add (first_of written.2)
-no_mutation word words clear range none (made.And key operand) written = none And (first_of written.2)
-no_mutation word words clear range none (made.Or key operand) written = none Or (first_of written.2)
-no_mutation word words clear range none (made.Xor key operand) written = none Xor (first_of written.2)
-no_mutation word words clear range none (made.Max key operand) written = none Max (first_of written.2)
-no_mutation word words clear range none (made.Min key operand) written = none Min (first_of written.2)
-no_mutation word words clear range none (made.ByteMin key operand) written = none ByteMin (first_of written.2)
-no_mutation word words clear range none (made.ByteMax key operand) written = none ByteMax (first_of written.2)
-no_mutation word words clear range none (made.CompareAndClear key operand) written =
+no_mutation word words clear range stamped none (made.Clear key) written = clear (first_of written.1)
+no_mutation word words clear range stamped none (made.ClearRange cleared) written = range (first_of written.2)
+no_mutation word words clear range stamped none (made.Set key operand) written = none Set (first_of written.2)
+no_mutation word words clear range stamped none (made.Add key operand) written = none Add (first_of written.2)
+no_mutation word words clear range stamped none (made.And key operand) written = none And (first_of written.2)
+no_mutation word words clear range stamped none (made.Or key operand) written = none Or (first_of written.2)
+no_mutation word words clear range stamped none (made.Xor key operand) written = none Xor (first_of written.2)
+no_mutation word words clear range stamped none (made.Max key operand) written = none Max (first_of written.2)
+no_mutation word words clear range stamped none (made.Min key operand) written = none Min (first_of written.2)
+no_mutation word words clear range stamped none (made.ByteMin key operand) written = none ByteMin (first_of written.2)
+no_mutation word words clear range stamped none (made.ByteMax key operand) written = none ByteMax (first_of written.2)
+no_mutation word words clear range stamped none (made.CompareAndClear key operand) written =
     none CompareAndClear (first_of written.2)
+no_mutation word words clear range stamped none (made.Stamped key operand offset) written =
+    stamped (first_of written.3)
 
 -- two byte texts of which the first or the second is none
 no_first : (name : List ℕ) (words : List (List ℕ)) → ((word : List ℕ) (rest : List (List ℕ)) (bytes : List ℕ)
@@ -195,3 +213,54 @@ clear_fault words fault found =
     Reads-whole fault (WritesOneText words) key_fault _ _ found
     (λ none mutation written. let back = clear_back words mutation written in none back.0 back.1)
     (λ key one. (made.Clear key, (one.0, (cc), one.2), refl))
+
+-- Three words after 'stamped', of which one isn't what it has to be.
+pub no_stamped_key : (words : List (List ℕ))
+    → ((word : List ℕ) (rest : List (List ℕ)) (bytes : List ℕ) → words ≡ word ∷ rest → ¬ WritesText word bytes)
+    → (mutation : Mutation) → ¬ WritesMutation (codes "stamped" ∷ words) mutation
+no_stamped_key words none mutation written =
+    let back = stamped_back words mutation written in
+    let it = back.3 in
+    none it.0 (it.1 ∷ it.2 ∷ []) back.0 (after_first it.3) it.4
+
+module _ (words after : List (List ℕ)) (key : List ℕ)
+    (first : (x : List ℕ) × (words ≡ x ∷ after) × WritesText x key) where
+  pub no_stamped_operand :
+      ((word : List ℕ) (rest : List (List ℕ)) (bytes : List ℕ) → after ≡ word ∷ rest → ¬ WritesText word bytes)
+      → (mutation : Mutation) → ¬ WritesMutation (codes "stamped" ∷ words) mutation
+  no_stamped_operand none mutation written =
+      let back = stamped_back words mutation written in
+      let it = back.3 in
+      none it.1 (it.2 ∷ []) back.1 (after_first (sym first.1 ∙ after_first it.3)) it.5
+
+  module _ (later : List (List ℕ)) (operand : List ℕ)
+      (second : (x : List ℕ) × (after ≡ x ∷ later) × WritesText x operand) where
+    pub no_stamped_offset : ((value : ℕ) → ¬ WritesOne later value) → (mutation : Mutation)
+        → ¬ WritesMutation (codes "stamped" ∷ words) mutation
+    no_stamped_offset none mutation written =
+        let back = stamped_back words mutation written in
+        let it = back.3 in
+        none back.2
+        (it.2, after_first (sym second.1 ∙ after_first (sym first.1 ∙ after_first it.3)), it.6)
+
+    -- and three that are
+    module _ (offset : ℕ) (third : WritesOne later offset) where
+      pub stamped_written : WritesMutation (codes "stamped" ∷ words) (made.Stamped key operand offset)
+      stamped_written = (first.0, second.0, third.0, (cc), first.2, second.2, third.2)
+
+      -- of which the key is refused
+      pub stamped_refused : (text : List ℕ) (fault : Fault) → text ≡ key
+          → MatchFault fault ⊥ (λ why. key_fault text ≡ Some why)
+          → Reads (Err fault) (WritesMutation (codes "stamped" ∷ words)) mutation_fault
+      stamped_refused text fault same refused =
+          Reads-refused fault (key_fault text) _ _ refused (made.Stamped key operand offset) stamped_written
+          (ap key_fault (sym same))
+
+      pub stamped_read : (text : List ℕ) → text ≡ key → key_fault text ≡ None
+          → WritesMutation (codes "stamped" ∷ words) (made.Stamped text operand offset)
+          × (mutation_fault (made.Stamped text operand offset) ≡ None)
+      stamped_read text same legal = (
+        subst (λ (it : List ℕ). WritesMutation (codes "stamped" ∷ words) (made.Stamped it operand offset)) (sym same)
+            stamped_written,
+        legal,
+      )

@@ -1,5 +1,5 @@
 -- The steps that drive a batch in flight to its end.
-use Rattle.std.specs.Prelude.{◌≡◌, ℕ, zero, suc, List, [], ◌∷◌, ◌++◌, Option, Result, Ok, Err, ◌⊎◌}
+use Rattle.std.specs.Prelude.{◌≡◌, ℕ, zero, suc, List, [], ◌∷◌, ◌++◌, Result, Ok, Err, ◌⊎◌}
 use Rattle.fdb_keys.specs.declared.refusal.Refusal.{Refusal}
 use Rattle.fdb_machine.specs.declared.in_flight.InFlight.{InFlight}
 use Rattle.fdb_machine.specs.declared.step.Answered.{Answered}

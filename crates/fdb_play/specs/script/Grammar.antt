@@ -8,7 +8,7 @@ use Rattle.fdb_machine.specs.machine.AnyStep.{Step}
 use Rattle.fdb_machine.specs.declared.step.AnyStep.TheVariants as made
 use Rattle.fdb_mutations.specs.declared.mutation.Mutation.{Mutation}
 use Rattle.fdb_mutations.specs.declared.mutation.Mutation.TheVariants.{Set, Clear, ClearRange, Add, And, Or, Xor, Max}
-use Rattle.fdb_mutations.specs.declared.mutation.Mutation.TheVariants.{Min, ByteMin, ByteMax, CompareAndClear}
+use Rattle.fdb_mutations.specs.declared.mutation.Mutation.TheVariants.{Min, ByteMin, ByteMax, CompareAndClear, Stamped}
 use Rattle.fdb_mutations.specs.Mutations.{named}
 use Rattle.fdb_mutations.specs.Naming.{NamedKeys, OneKey, KeysIn}
 use Rattle.fdb_play.specs.declared.script.line.Line.{Line}
@@ -92,6 +92,12 @@ abbrev pub WritesTwoTexts : List (List ℕ) → List ℕ → List ℕ → List �
 WritesTwoTexts words word first second =
     (x : List ℕ) × (y : List ℕ) × (words ≡ word ∷ x ∷ y ∷ []) × WritesText x first × WritesText y second
 
+-- the words are 'stamped', two byte texts and a number below 2^32
+abbrev pub WritesStamped : List (List ℕ) → List ℕ → List ℕ → ℕ → Type 0
+WritesStamped words key operand offset =
+    (x : List ℕ) × (y : List ℕ) × (z : List ℕ) × (words ≡ codes "stamped" ∷ x ∷ y ∷ z ∷ [])
+    × WritesText x key × WritesText y operand × WritesSmall z offset
+
 -- the words after a session's number write the mutation
 abbrev pub WritesMutation : List (List ℕ) → Mutation → Type 0
 WritesMutation words (Set key value) = WritesTwoTexts words (codes "set") key value
@@ -106,6 +112,7 @@ WritesMutation words (Min key operand) = WritesTwoTexts words (codes "min") key 
 WritesMutation words (ByteMin key operand) = WritesTwoTexts words (codes "bytemin") key operand
 WritesMutation words (ByteMax key operand) = WritesTwoTexts words (codes "bytemax") key operand
 WritesMutation words (CompareAndClear key operand) = WritesTwoTexts words (codes "cac") key operand
+WritesMutation words (Stamped key operand offset) = WritesStamped words key operand offset
 
 -- the words are a session's number and a key that the step reads
 abbrev pub WritesGet : Bool → List (List ℕ) → Step → Type 0

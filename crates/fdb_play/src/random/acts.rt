@@ -15,6 +15,15 @@ const KEYS: [&[u8]; 8] = [
     b"k/0", b"k/1", b"k/2", b"k/3", b"k/4", b"k/5", b"k/6", b"k/7",
 ];
 
+/// The operands that a stamp goes into, by how many bytes they have besides it.
+const STAMPED: [&[u8]; 5] = [
+    b"0123456789",
+    b"0123456789a",
+    b"0123456789ab",
+    b"0123456789abc",
+    b"0123456789abcd",
+];
+
 /// The key that splits the resolvers, and the shards.
 pub const SPLIT: &[u8] = b"k/4";
 
@@ -25,7 +34,8 @@ pub struct Span {
     pub end: u32,
 }
 
-/// What a transaction writes. Values and operands have one byte.
+/// What a transaction writes. Values and operands have one byte, but an operand that gets a stamp has so many besides
+/// the stamp's.
 #[derive(Clone, Copy)]
 pub enum Change {
     Operate {
@@ -38,6 +48,11 @@ pub enum Change {
     },
     ClearRange {
         span: Span,
+    },
+    Stamped {
+        key: u32,
+        besides: u32,
+        offset: u32,
     },
 }
 
@@ -114,6 +129,26 @@ fn operate(alloc: Global, operation: Operation, key: u32, operand: u8) -> Result
     Ok(operation.on(key, operand))
 }
 
+// The operand that has so many bytes besides a stamp's.
+fn stamped_operand(besides: u32) -> &'static [u8] {
+    match STAMPED.get(besides as usize) {
+        Some(operand) => operand,
+        None => b"",
+    }
+}
+
+fn stamped(alloc: Global, key: u32, besides: u32, offset: u32) -> Result<Mutation, Refusal>
+    ensures { IfErr result IsUnmade }
+{
+    let operand = Bytes::copy_from_slice(alloc, stamped_operand(besides))?;
+    let key = key_of(alloc, key)?;
+    Ok(Mutation::Stamped {
+        key,
+        operand,
+        offset,
+    })
+}
+
 fn clear(alloc: Global, key: u32) -> Result<Mutation, Refusal>
     ensures { IfErr result IsUnmade }
 {
@@ -139,6 +174,11 @@ fn mutation_of(alloc: Global, change: Change) -> Result<Mutation, Refusal>
         } => operate(alloc, operation, key, operand),
         Change::Clear { key } => clear(alloc, key),
         Change::ClearRange { span } => clear_range(alloc, span),
+        Change::Stamped {
+            key,
+            besides,
+            offset,
+        } => stamped(alloc, key, besides, offset),
     }
 }
 

@@ -191,12 +191,13 @@ impl Drawing {
     }
 
     fn change(&mut self) -> Change {
-        match self.below(8) {
+        match self.below(10) {
             0 => Change::Clear {
                 key: self.some_of(KEYS),
             },
             1 => Change::ClearRange { span: self.span() },
             2..=4 => self.operate(Operation::Set),
+            5..=6 => self.stamped(),
             _ => {
                 let place = self.below(10);
                 self.operate(OPERATIONS[place as usize])
@@ -209,6 +210,21 @@ impl Drawing {
             operation,
             key: self.some_of(KEYS),
             operand: self.below(8) as u8,
+        }
+    }
+
+    // Mostly the stamp fits into the operand, and at times it goes one byte too far.
+    fn stamped(&mut self) -> Change {
+        let besides = self.below(5);
+        let offset = if self.rarely(8) {
+            besides + 1
+        } else {
+            self.below(besides + 1)
+        };
+        Change::Stamped {
+            key: self.some_of(KEYS),
+            besides,
+            offset,
         }
     }
 

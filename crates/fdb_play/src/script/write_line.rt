@@ -25,6 +25,9 @@ pub fn read_mutation(alloc: Global, words: &mut Words<'_>) -> Result<Mutation, F
     if word == b"clearrange".as_slice() {
         return read_clear_range(alloc, words);
     }
+    if word == b"stamped".as_slice() {
+        return read_stamped(alloc, words);
+    }
     let operation = operation_named(word)?;
     read_operation(alloc, operation, words)
 }
@@ -55,4 +58,19 @@ fn read_operation(
     let key = make_key(alloc, text.as_slice())?;
     let operand = Bytes::from_vec(operand)?;
     Ok(operation.on(key, operand))
+}
+
+fn read_stamped(alloc: Global, words: &mut Words<'_>) -> Result<Mutation, Fault>
+    ensures { Reads result (WritesMutation (codes "stamped" ∷ words.old)) mutation_fault }
+{
+    let text = words.text(alloc)?;
+    let operand = words.text(alloc)?;
+    let offset = words.last_number()?;
+    let key = make_key(alloc, text.as_slice())?;
+    let operand = Bytes::from_vec(operand)?;
+    Ok(Mutation::Stamped {
+        key,
+        operand,
+        offset,
+    })
 }

@@ -1,16 +1,17 @@
 // What a session reads at shards: on the serial map of its own front, whatever front a shard has.
 ghost use Rattle.std.specs.Prelude.{◌≡◌, ◌≤◌, None, Some, Err, IfOk, IfSome, OnErr};
-ghost use Rattle.std.specs.Prelude.{if◌then◌else◌};
 ghost use Rattle.fdb_keys.specs.Answers.{Answers};
 ghost use Rattle.fdb_keys.specs.declared.refusal.Refusal.TheVariants.{NoTransaction, KeyOutsideLegalRange};
 ghost use Rattle.fdb_txn.specs.book.Book.{last_version};
 ghost use Rattle.fdb_storage.specs.Shards.{key_fault};
-ghost use Rattle.fdb_client.specs.Programs.{program, decided};
+ghost use Rattle.fdb_client.specs.Programs.{program};
+ghost use Rattle.fdb_client.specs.Unreadable.{get_fault, range_read_fault};
 ghost use Rattle.fdb_client.specs.declared.program.Op.TheVariants as operation;
 ghost use Rattle.fdb_client.specs.declared.program.Reply.TheVariants as answer;
 ghost use Rattle.fdb_roles.specs.Sessions.{OfOpen};
 ghost use Rattle.fdb_sections.specs.LentShards.{lent_shards, lending_fault};
 ghost use Rattle.fdb_sections.specs.Reading.{HasRead, own_writes_decide, RefusedBy};
+ghost use Rattle.fdb_sections.specs.ShardViews.{run_of};
 
 use crate::known_front::KnownFront;
 use crate::name::ClusterName;
@@ -53,8 +54,9 @@ impl<B: ClusterName> SessionState<B> {
 
     /// The value of the key after the open transaction's own writes, on the serial map of the session's front at the
     /// read version, noted with the operation. The shard is asked where the own writes don't decide the key. Refused as
-    /// `NoTransaction` where none is open, as `NoMemory`, and, where the shard is asked, as the shard refuses a read of
-    /// the key at that version. Then nothing changes. It takes what `Txn::get` takes, and a read of the shard.
+    /// `NoTransaction` where none is open, as `NoMemory`, as `AccessedUnreadable` where the own writes leave the key
+    /// unreadable, and, where the shard is asked, as the shard refuses a read of the key at that version. Then nothing
+    /// changes. It takes what `Txn::get` takes, and a read of the shard.
     pub fn get_at(
         &mut self,
         at: &ShardAt<B>,
@@ -65,8 +67,8 @@ impl<B: ClusterName> SessionState<B> {
             (operation.Get key.now is_snapshot) (answer.Value value) self.new) }
         ensures none { self.old.current ≡ None → result ≡ Err NoTransaction }
         ensures fault { IfSome self.old.current (λ transcript. RefusedBy result
-            (if decided (program transcript.ops) key.now then None
-            else key_fault at.now.shard key.now transcript.read_version)) }
+            (get_fault (program transcript.ops) key.now
+            (key_fault at.now.shard key.now transcript.read_version))) }
         ensures refused { OnErr result (self.new ≡ self.old) }
     {
         let (version, front) = self.share_open()?;
@@ -75,8 +77,9 @@ impl<B: ClusterName> SessionState<B> {
     }
 
     /// The value of the key that the open transaction's own writes decide, which no shard is asked for, noted with the
-    /// operation. Refused as `NoTransaction` where none is open, as `NoMemory`, and as `KeyOutsideLegalRange` where its
-    /// writes don't decide the key. Then nothing changes. It takes what `Txn::get` takes.
+    /// operation. Refused as `NoTransaction` where none is open, as `NoMemory`, as `AccessedUnreadable` where its
+    /// writes leave the key unreadable, and as `KeyOutsideLegalRange` where they don't decide it. Then nothing changes.
+    /// It takes what `Txn::get` takes.
     pub fn get_decided(
         &mut self,
         alloc: Global,
@@ -87,7 +90,7 @@ impl<B: ClusterName> SessionState<B> {
             (operation.Get key.now is_snapshot) (answer.Value value) self.new) }
         ensures none { self.old.current ≡ None → result ≡ Err NoTransaction }
         ensures fault { IfSome self.old.current (λ transcript. RefusedBy result
-            (if decided (program transcript.ops) key.now then None else Some KeyOutsideLegalRange)) }
+            (get_fault (program transcript.ops) key.now (Some KeyOutsideLegalRange))) }
         ensures refused { OnErr result (self.new ≡ self.old) }
     {
         let (version, front) = self.share_open()?;
@@ -98,9 +101,9 @@ impl<B: ClusterName> SessionState<B> {
 
     /// The pairs of the range after the open transaction's own writes, on the serial map of the session's front at the
     /// read version, as `Txn::get_range` gives them, noted with the operation. The shards are asked one after another.
-    /// Refused as `NoTransaction` where none is open, as `NoMemory`, and as `LentShards::new` refuses to lend the
-    /// shards for the range at that version. Then nothing changes. It takes what `Txn::get_range` takes, with pages of
-    /// the shards.
+    /// Refused as `NoTransaction` where none is open, as `NoMemory`, as `LentShards::new` refuses to lend the shards
+    /// for the range at that version, and else as `AccessedUnreadable` where what it scanned has a key that the own
+    /// writes leave unreadable. Then nothing changes. It takes what `Txn::get_range` takes, with pages of the shards.
     pub fn get_range_at(
         &mut self,
         alloc: Global,
@@ -114,7 +117,9 @@ impl<B: ClusterName> SessionState<B> {
             (operation.Range range.now limit reverse is_snapshot) (answer.Pairs pairs) self.new) }
         ensures none { self.old.current ≡ None → result ≡ Err NoTransaction }
         ensures fault { IfSome self.old.current (λ transcript. RefusedBy result
-            (lending_fault transcript.read_version range.now (lent_shards shards.now))) }
+            (range_read_fault (run_of B.config transcript.read_version self.old.front) (program transcript.ops)
+            range.now limit reverse
+            (lending_fault transcript.read_version range.now (lent_shards shards.now)))) }
         ensures refused { OnErr result (self.new ≡ self.old) }
     {
         let (version, front) = self.share_open()?;

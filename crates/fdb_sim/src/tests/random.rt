@@ -20,7 +20,7 @@ const WINDOWS: usize = 22;
 // How often this or that came that each run should have: steps of each kind that were accepted, of which the reads of a
 // snapshot are two, refusals of the usual codes, windows that were refused, and each outcome of a transaction.
 fn has_all(tally: &Tally) -> bool {
-    let codes = [1009, 9002, 9003, 9014, 9016];
+    let codes = [1009, 1036, 9002, 9003, 9008, 9014, 9016];
     tally.accepted.iter().all(|count| *count > 0)
         && codes.iter().all(|code| has_refused(tally, *code))
         && tally.refused_kinds[WINDOWS] > 0
@@ -64,7 +64,7 @@ fn is_whole(alloc: Global, seed: u64) -> bool {
 
 #[test]
 fn steps_of_all_kinds_are_taken(rt: HostRuntime) {
-    for seed in 1..3 {
+    for seed in 2..4 {
         assert!(rt; is_whole(rt.alloc(), seed), "at {seed}");
     }
 }

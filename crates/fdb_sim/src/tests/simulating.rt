@@ -142,10 +142,10 @@ fn a_book_is_filled(rt: HostRuntime) -> Result<(), Fail> {
     Ok(())
 }
 
-// How many transactions of plays that are right were turned down, how many reads came too late, and of how many
-// transactions nothing is known.
-fn sum_of(alloc: Global, plans: [Plan; 4]) -> [u64; 3] {
-    let mut sum: [u64; 3] = [0; 3];
+// How many transactions of plays that are right were turned down, how many reads came too late, of how many
+// transactions nothing is known, and how many reads were of an own stamp.
+fn sum_of(alloc: Global, plans: [Plan; 4]) -> [u64; 4] {
+    let mut sum: [u64; 4] = [0; 4];
     for plan in plans {
         if let Ok(tally) = play(alloc, &plan, 4_096)
             && tally.is_right()
@@ -153,6 +153,7 @@ fn sum_of(alloc: Global, plans: [Plan; 4]) -> [u64; 3] {
             sum[0] = sum[0].saturating_add(tally.turned_down);
             sum[1] = sum[1].saturating_add(tally.forgotten);
             sum[2] = sum[2].saturating_add(tally.unknown);
+            sum[3] = sum[3].saturating_add(tally.unreadable);
         }
     }
     sum
@@ -176,12 +177,12 @@ fn what_is_refused_comes_of_conflicts_age_and_failures(rt: HostRuntime) -> Resul
     let alloc = rt.alloc();
     let far = [6, 12, 18, 24].map(far_apart);
     let failing = [1, 5, 13, 17].map(plan_of);
-    let [turned_down, forgotten, _unknown] = sum_of(alloc, far);
-    let [_turned_down, _forgotten, unknown] = sum_of(alloc, failing);
+    let [turned_down, forgotten, _unknown, unreadable] = sum_of(alloc, far);
+    let [_turned_down, _forgotten, unknown, _unreadable] = sum_of(alloc, failing);
     same(
         &rt,
-        (turned_down > 0, forgotten > 0, unknown > 0),
-        (true, true, true),
+        (turned_down > 0, forgotten > 0, unknown > 0, unreadable > 0),
+        (true, true, true, true),
     );
     Ok(())
 }

@@ -9,6 +9,7 @@ pub mod resolvers;
 mod sessions;
 mod sets;
 pub mod shards;
+mod stamps;
 mod windows;
 mod writes;
 
@@ -96,6 +97,7 @@ fn tables_are_played(rt: HostRuntime) -> Result<(), Fail> {
         sessions::TABLES.as_slice(),
         sets::TABLES.as_slice(),
         shards::TABLES.as_slice(),
+        stamps::TABLES.as_slice(),
         windows::TABLES.as_slice(),
         writes::TABLES.as_slice(),
     ] {

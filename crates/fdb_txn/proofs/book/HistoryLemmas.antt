@@ -8,7 +8,7 @@ use Rattle.fdb_keys.proofs.Exports.{all-append, all-weaken}
 use Rattle.fdb_txn.specs.declared.entry.Move.{Move}
 use Rattle.fdb_txn.specs.declared.entry.Entry.{Entry}
 use Rattle.fdb_txn.specs.book.Transactions.{Transaction, NamesWrites}
-use Rattle.fdb_txn.specs.book.Book.{Stamped, Head, Place, Seen, nothing, add_moves, head_of, placed}
+use Rattle.fdb_txn.specs.book.Book.{DatedMove, Head, Place, Seen, nothing, add_moves, head_of, placed}
 use Rattle.fdb_txn.specs.book.Book.{add_places, add_entry, seen_of}
 use Rattle.fdb_txn.specs.book.Places.{place_in, place_of}
 use Rattle.fdb_txn.specs.book.History.{AreLinked, HasHorizonBelow, ReadsBelow, MovesExist, IsSealed, IsBook}
@@ -24,66 +24,66 @@ all-both P Q [] all others = tt
 all-both P Q (x ∷ xs) all others = ((all.0, others.0), all-both P Q xs all.1 others.1)
 
 -- the move is of a version up to this one and goes to a resolver that exists
-abbrev IsMoveThrough : ℕ → ℕ → Stamped → Type 0
+abbrev IsMoveThrough : ℕ → ℕ → DatedMove → Type 0
 IsMoveThrough resolvers version move = (move.version ≤ version) × (move.target < resolvers)
 
 -- a place of this version and with these moves would follow the earlier one
-abbrev IsAfter : ℕ → List Stamped → Place → Type 0
+abbrev IsAfter : ℕ → List DatedMove → Place → Type 0
 IsAfter version moves earlier =
     (earlier.version ≤ version)
-    × ((newer : List Stamped) × (moves ≡ newer ++ earlier.moves)
-    × AllByRecursion (λ (move : Stamped). earlier.version < move.version) newer)
+    × ((newer : List DatedMove) × (moves ≡ newer ++ earlier.moves)
+    × AllByRecursion (λ (move : DatedMove). earlier.version < move.version) newer)
 
 -- the transaction may stand at a place of this version
 abbrev MayStandAt : ℕ → Transaction → Type 0
 MayStandAt version t = (t.read < version) × NamesWrites t
 
 -- the moves of an entry stand before the older ones and have its version
-abbrev HasNewer : ℕ → ℕ → List Stamped → List Stamped → Type 0
+abbrev HasNewer : ℕ → ℕ → List DatedMove → List DatedMove → Type 0
 HasNewer resolvers version moves older =
-    (newer : List Stamped) × (moves ≡ newer ++ older)
-    × AllByRecursion (λ (move : Stamped). (move.version ≡ version) × (move.target < resolvers)) newer
+    (newer : List DatedMove) × (moves ≡ newer ++ older)
+    × AllByRecursion (λ (move : DatedMove). (move.version ≡ version) × (move.target < resolvers)) newer
 
-add_moves-newer : (resolvers version : ℕ) (moves : List Move) (older : List Stamped)
+add_moves-newer : (resolvers version : ℕ) (moves : List Move) (older : List DatedMove)
     → AllByRecursion (λ (move : Move). move.to < resolvers) moves
     → HasNewer resolvers version (add_moves version moves older) older
 add_moves-newer resolvers version [] older exist = ([], refl, tt)
 add_moves-newer resolvers version (move ∷ moves) older exist =
-    let rest : HasNewer resolvers version (add_moves version moves (stamped ∷ older)) (stamped ∷ older) =
-    add_moves-newer resolvers version moves (stamped ∷ older) exist.1 in (
-      rest.0 ++ stamped ∷ [],
-      rest.1 ∙ sym (append_assoc rest.0 (stamped ∷ []) older),
-      all-append _ rest.0 (stamped ∷ []) rest.2 ((refl, exist.0), tt),
+    let rest : HasNewer resolvers version (add_moves version moves (dated ∷ older)) (dated ∷ older) =
+    add_moves-newer resolvers version moves (dated ∷ older) exist.1 in (
+      rest.0 ++ dated ∷ [],
+      rest.1 ∙ sym (append_assoc rest.0 (dated ∷ []) older),
+      all-append _ rest.0 (dated ∷ []) rest.2 ((refl, exist.0), tt),
     )
   where
-    stamped : Stamped
-    stamped = record { version = version; range = move.range; target = move.to }
+    dated : DatedMove
+    dated = record { version = version; range = move.range; target = move.to }
 
 -- moves through a version, with newer ones of a greater version, are moves through that
-moves-through : (resolvers last version : ℕ) (moves older : List Stamped) → last ≤ version
+moves-through : (resolvers last version : ℕ) (moves older : List DatedMove) → last ≤ version
     → HasNewer resolvers version moves older
     → AllByRecursion (IsMoveThrough resolvers last) older → AllByRecursion (IsMoveThrough resolvers version) moves
 moves-through resolvers last version moves older later newer through =
     subst (AllByRecursion (IsMoveThrough resolvers version)) (sym newer.1)
     (all-append (IsMoveThrough resolvers version) newer.0 older
-    (all-weaken _ (IsMoveThrough resolvers version) (λ (move : Stamped) made. (omega (arith, made.0), made.1)) newer.0
+    (all-weaken _ (IsMoveThrough resolvers version) (λ (move : DatedMove) made. (omega (arith, made.0), made.1)) newer.0
     newer.2)
     (all-weaken (IsMoveThrough resolvers last) (IsMoveThrough resolvers version)
-    (λ (move : Stamped) was. (le_trans was.0 later, was.1)) older through))
+    (λ (move : DatedMove) was. (le_trans was.0 later, was.1)) older through))
 
 -- newer moves of a greater version come before the moves of an earlier place, too
-after-newer : (resolvers last version : ℕ) (moves older : List Stamped) → last < version
+after-newer : (resolvers last version : ℕ) (moves older : List DatedMove) → last < version
     → HasNewer resolvers version moves older
     → (place : Place) → IsAfter last older place → IsAfter version moves place
 after-newer resolvers last version moves older later newer place after = (
   le_trans after.0 (le_of_lt later),
   (
     newer.0 ++ after.1.0,
-    newer.1 ∙ ap (λ (rest : List Stamped). newer.0 ++ rest) after.1.1
+    newer.1 ∙ ap (λ (rest : List DatedMove). newer.0 ++ rest) after.1.1
         ∙ sym (append_assoc newer.0 after.1.0 place.moves),
-    all-append (λ (move : Stamped). place.version < move.version) newer.0 after.1.0
-        (all-weaken _ (λ (move : Stamped). place.version < move.version)
-        (λ (move : Stamped) made. omega (arith, made.0, after.0)) newer.0 newer.2)
+    all-append (λ (move : DatedMove). place.version < move.version) newer.0 after.1.0
+        (all-weaken _ (λ (move : DatedMove). place.version < move.version)
+        (λ (move : DatedMove) made. omega (arith, made.0, after.0)) newer.0 newer.2)
         after.1.2,
   ),
 )
@@ -118,7 +118,7 @@ history-after resolvers last seen (entry ∷ book) through history after entries
     seen.places after) in
     history-after resolvers entry.version (add_entry seen entry) book now both.0 both.1 entries.4
   where
-    moves : List Stamped
+    moves : List DatedMove
     moves = add_moves entry.version entry.moves seen.moves
 
 -- the places of a book are a history

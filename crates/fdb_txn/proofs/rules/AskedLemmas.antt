@@ -8,7 +8,7 @@ use Rattle.std.proofs.lemmas.Bool.Decides.{Decides-below_and, Decides-like}
 use Rattle.fdb_keys.specs.Points.{Point, point_lt}
 use Rattle.fdb_keys.specs.Ranges.{Range, in_range, in_set}
 use Rattle.fdb_keys.proofs.Exports.{all-parts, in_range_from, in_range_parts, le_lt_chain, lt-itself}
-use Rattle.fdb_txn.specs.book.Book.{Stamped, Place}
+use Rattle.fdb_txn.specs.book.Book.{DatedMove, Place}
 use Rattle.fdb_txn.specs.rules.Owners.{first_owner, owner, span_begin, is_asked}
 use Rattle.fdb_txn.specs.rules.Admission.{has_points, is_fresh, admits, all_below, committed}
 use Rattle.fdb_txn.specs.laws.AdmissionLaws.{Conflict, IsAmongAsked, CommittedByTheAsked, OldIsAsked}
@@ -44,8 +44,8 @@ first_owner-exists (split ∷ splits) x =
     (λ before. omega arith) (λ after. omega (arith, others))
 
 -- the owner of a point exists, where each move goes to a resolver that does
-pub owner-exists : (splits : List Point) (version : ℕ) (moves : List Stamped) (x : Point) (v : ℕ)
-    → AllByRecursion (λ (move : Stamped). (move.version ≤ version) × (move.target < suc (length splits))) moves
+pub owner-exists : (splits : List Point) (version : ℕ) (moves : List DatedMove) (x : Point) (v : ℕ)
+    → AllByRecursion (λ (move : DatedMove). (move.version ≤ version) × (move.target < suc (length splits))) moves
     → owner splits moves x v < suc (length splits)
 owner-exists splits version [] x v all = first_owner-exists splits x
 owner-exists splits version (move ∷ older) x v all =
@@ -55,8 +55,8 @@ owner-exists splits version (move ∷ older) x v all =
     (λ there. owner-exists splits version older x v all.1)
 
 -- moves of greater versions don't change an owner
-pub owner-older : (splits : List Point) (newer older : List Stamped) (x : Point) (v : ℕ)
-    → AllByRecursion (λ (move : Stamped). v < move.version) newer
+pub owner-older : (splits : List Point) (newer older : List DatedMove) (x : Point) (v : ℕ)
+    → AllByRecursion (λ (move : DatedMove). v < move.version) newer
     → owner splits (newer ++ older) x v ≡ owner splits older x v
 owner-older splits [] older x v all = refl
 owner-older splits (move ∷ newer) older x v all =
@@ -68,7 +68,7 @@ owner-older splits (move ∷ newer) older x v all =
 pub one_owner_where_follows : (splits : List Point) (later earlier : Place) (x : Point) → Follows later earlier
     → owner splits later.moves x earlier.version ≡ owner splits earlier.moves x earlier.version
 one_owner_where_follows splits later earlier x follows =
-    ap (λ (moves : List Stamped). owner splits moves x earlier.version) follows.1.1
+    ap (λ (moves : List DatedMove). owner splits moves x earlier.version) follows.1.1
     ∙ owner-older splits follows.1.0 earlier.moves x earlier.version follows.1.2
 
 -- the span of asking begins below each version above a read version that isn't below the horizon

@@ -10,7 +10,7 @@ use Rattle.std.proofs.lemmas.List.MinMax.{IsStrictWeakOrder-by_number}
 use Rattle.fdb_keys.specs.Points.{Point, point_lt}
 use Rattle.fdb_keys.specs.Ranges.{Range, in_range, in_set}
 use Rattle.fdb_keys.proofs.Exports.{all-parts, point_order}
-use Rattle.fdb_txn.specs.book.Book.{Stamped}
+use Rattle.fdb_txn.specs.book.Book.{DatedMove}
 use Rattle.fdb_txn.specs.rules.Owners.{first_owner, owner, bounds, version_corners, owned, span_begin, asked_at}
 use Rattle.fdb_txn.specs.rules.Admission.{overlaps_at}
 use Rattle.fdb_txn.specs.laws.AdmissionLaws.{OverlapsAtSomePoint, AskedAtSomePoint, OwnedAtSomeVersion}
@@ -119,8 +119,8 @@ alike-first_owner (split ∷ splits) x y alike =
     (alike-first_owner splits x y alike.1)
 
 -- points that come before the same splits and bounds of moves have one owner at each version
-pub alike-owner : (splits : List Point) (moves : List Stamped) (x y : Point) (v : ℕ) → AreAlike point_lt splits x y
-    → AreAlike point_lt (bounds (map (λ (move : Stamped). move.range) moves)) x y
+pub alike-owner : (splits : List Point) (moves : List DatedMove) (x y : Point) (v : ℕ) → AreAlike point_lt splits x y
+    → AreAlike point_lt (bounds (map (λ (move : DatedMove). move.range) moves)) x y
     → owner splits moves x v ≡ owner splits moves y v
 alike-owner splits [] x y v alike among_moves = alike-first_owner splits x y alike
 alike-owner splits (move ∷ older) x y v alike among_moves =
@@ -135,23 +135,23 @@ alike-list_any p q same [] = refl
 alike-list_any p q same (x ∷ xs) = ap₂ (λ here there. here || there) (same x) (alike-list_any p q same xs)
 
 -- points alike at the corners of two sets: they lie in the same sets, and have one owner
-module _ (splits : List Point) (moves : List Stamped) (xs ys : List Range) (x y : Point)
-    (alike : AreAlike point_lt (splits ++ (bounds (map (λ (move : Stamped). move.range) moves) ++ bounds (xs ++ ys))) x
-    y) where
+module _ (splits : List Point) (moves : List DatedMove) (xs ys : List Range) (x y : Point)
+    (alike : AreAlike point_lt
+    (splits ++ (bounds (map (λ (move : DatedMove). move.range) moves) ++ bounds (xs ++ ys))) x y) where
   abbrev IsAlike : Point → Type 0
   IsAlike corner = point_lt x corner ≡ point_lt y corner
 
   at_splits : AreAlike point_lt splits x y
   at_splits = (all-parts IsAlike splits _ alike).0
 
-  among_others : AreAlike point_lt (bounds (map (λ (move : Stamped). move.range) moves) ++ bounds (xs ++ ys)) x y
+  among_others : AreAlike point_lt (bounds (map (λ (move : DatedMove). move.range) moves) ++ bounds (xs ++ ys)) x y
   among_others = (all-parts IsAlike splits _ alike).1
 
-  at_moves : AreAlike point_lt (bounds (map (λ (move : Stamped). move.range) moves)) x y
-  at_moves = (all-parts IsAlike (bounds (map (λ (move : Stamped). move.range) moves)) _ among_others).0
+  at_moves : AreAlike point_lt (bounds (map (λ (move : DatedMove). move.range) moves)) x y
+  at_moves = (all-parts IsAlike (bounds (map (λ (move : DatedMove). move.range) moves)) _ among_others).0
 
   at_ranges : AreAlike point_lt (bounds (xs ++ ys)) x y
-  at_ranges = (all-parts IsAlike (bounds (map (λ (move : Stamped). move.range) moves)) _ among_others).1
+  at_ranges = (all-parts IsAlike (bounds (map (λ (move : DatedMove). move.range) moves)) _ among_others).1
 
   alike-first_set : in_set xs x ≡ in_set xs y
   alike-first_set = alike-in_set xs x y (bounds-parts IsAlike xs ys at_ranges).0
@@ -173,7 +173,7 @@ overlaps_at_some_point splits i earlier later =
     (one_owner splits earlier.moves earlier.transaction.writes later.transaction.reads x y alike earlier.version))
 
 -- points with one owner at each version are owned at the same versions
-alike-owned : (splits : List Point) (i : ℕ) (moves : List Stamped) (x y : Point) (low high : ℕ)
+alike-owned : (splits : List Point) (i : ℕ) (moves : List DatedMove) (x y : Point) (low high : ℕ)
     → ((v : ℕ) → owner splits moves x v ≡ owner splits moves y v)
     → owned splits i moves x low high ≡ owned splits i moves y low high
 alike-owned splits i moves x y low high one =
@@ -194,8 +194,8 @@ asked_at_some_point splits i place =
     (alike-owned splits i place.moves x y (span_begin place) place.version one)))
 
 -- versions after or at the same moves have one owner of each point
-same_moves-owner : (splits : List Point) (moves : List Stamped) (x : Point) (v w : ℕ)
-    → AreAlike nat_lt (map (λ (move : Stamped). move.version) moves) v w
+same_moves-owner : (splits : List Point) (moves : List DatedMove) (x : Point) (v w : ℕ)
+    → AreAlike nat_lt (map (λ (move : DatedMove). move.version) moves) v w
     → owner splits moves x v ≡ owner splits moves x w
 same_moves-owner splits [] x v w alike = refl
 same_moves-owner splits (move ∷ older) x v w alike =
@@ -212,7 +212,7 @@ same_moves-owner splits (move ∷ older) x v w alike =
         (cases_Bool (nat_lt v n))
 
 -- resolver i owns the point at this version of the span
-abbrev is_owned_at : List Point → ℕ → List Stamped → Point → ℕ → ℕ → ℕ → Bool
+abbrev is_owned_at : List Point → ℕ → List DatedMove → Point → ℕ → ℕ → ℕ → Bool
 is_owned_at splits i moves x low high v = nat_lt low v && nat_le v high && (owner splits moves x v == i)
 
 -- a resolver owned a point exactly where it did so at some version
@@ -226,7 +226,7 @@ owned_at_some_version splits i moves x low high = (
       (some.0, ltb-true low some.0 between.0, leb-true some.0 high between.1, eqb-true _ i parts.1),
   λ some.
       let near = nearest nat_lt (IsStrictWeakOrder-by_number (λ (v : ℕ). v)) some.0 (suc low)
-      (map (λ (move : Stamped). move.version) moves) (le-ltb some.0 (suc low) some.1) in
+      (map (λ (move : DatedMove). move.version) moves) (le-ltb some.0 (suc low) some.1) in
       let above : suc low ≤ near.0 = ltb-false near.0 (suc low) near.3 in
       let below : near.0 ≤ some.0 = ltb-false some.0 near.0 near.2 in
       near.1 (is_owned_at splits i moves x low high)

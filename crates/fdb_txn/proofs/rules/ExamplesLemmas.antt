@@ -2,13 +2,14 @@
 use Rattle.std.proofs.Common.{◌≡◌, ◌<◌, ◌≤◌, ◌+◌, ◌==◌, ◌∙◌, sym, ap, refl, arith, ⊎_elim, ℕ, Bool, true, false}
 use Rattle.std.proofs.Common.{if◌then◌else◌}
 use Rattle.std.specs.Prelude.{codes}
-use Rattle.std.proofs.lemmas.Bool.{cases_Bool, and_parts, eqb-true}
+use Rattle.std.proofs.lemmas.Bool.{cases_Bool, and_parts, both_ways, eqb-true}
 use Rattle.fdb_keys.specs.Points.{point_lt}
 use Rattle.fdb_txn.specs.declared.txn_id.TxnId.{TxnId}
 use Rattle.fdb_txn.specs.book.Once.{same_id, times_in_book}
 use Rattle.fdb_txn.specs.laws.Examples.{OneBatch, WriteSkew, FalseConflict, FormerOwner, ThereAndBack, EqualIsNotNewer}
 use Rattle.fdb_txn.specs.laws.Examples.{Window, OldReading, TwoMoves, Spans, AtBounds, ShardMessages, Entries}
 use Rattle.fdb_txn.specs.laws.Examples.{of_three_ids, Books, Numbers, Horizon, Horizons}
+use Rattle.fdb_txn.specs.laws.StampExamples.{Stamps}
 
 pub one_batch_computes : OneBatch
 unfolding point_lt
@@ -22,7 +23,7 @@ unfolding point_lt
 horizon_computes = (refl, refl, refl, refl, refl, refl, refl)
 
 pub horizons_compute : Horizons
-horizons_compute = (refl, refl, refl, refl, refl, refl)
+horizons_compute = (refl, refl, refl, refl, refl, refl, refl, refl)
 
 pub write_skew_computes : WriteSkew
 unfolding point_lt
@@ -67,6 +68,10 @@ at_bounds_computes = (refl, refl, refl)
 pub shard_messages_compute : ShardMessages
 unfolding point_lt
 shard_messages_compute = (refl, refl, refl)
+
+pub stamps_compute : Stamps
+unfolding point_lt
+stamps_compute = (refl, refl, refl, refl, (λ none. both_ways true none.0 refl))
 
 pub entries_are_judged : Entries
 entries_are_judged = (

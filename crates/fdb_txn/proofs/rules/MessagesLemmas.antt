@@ -15,7 +15,9 @@ use Rattle.fdb_keys.proofs.Exports.{HaveCommonPoint, all-append, all-weaken, com
 use Rattle.fdb_mutations.specs.declared.mutation.Mutation.{Mutation}
 use Rattle.fdb_mutations.specs.Maps.{Map}
 use Rattle.fdb_mutations.specs.Mutations.{names, named_range, new_value, effect, effects, value_after}
-use Rattle.fdb_mutations.proofs.Exports.{at_every_point, in_named_range}
+use Rattle.fdb_mutations.specs.Stamping.{is_stamped, stamped}
+use Rattle.fdb_mutations.specs.Stamps.{stamp_bytes}
+use Rattle.fdb_mutations.proofs.Exports.{at_every_point, in_named_range, stamps_are_final}
 use Rattle.fdb_txn.specs.declared.entry.Entry.{Entry}
 use Rattle.fdb_txn.specs.book.Transactions.{Transaction}
 use Rattle.fdb_txn.specs.book.Book.{Head, Place, Seen, nothing, head_of, placed, add_places, add_entry, seen_of}
@@ -25,7 +27,9 @@ use Rattle.fdb_txn.specs.book.History.{AreEntries}
 use Rattle.fdb_txn.specs.rules.Messages.{meets_range, Body, mutations_in, at_place, committed_from, committed_in}
 use Rattle.fdb_txn.specs.rules.Messages.{message_for, messages_after, value_with, MeetsAtSomePoint, IsForRange}
 use Rattle.fdb_txn.specs.rules.Messages.{MessagesAreForTheRange, ShardsHoldTheRun, MessagesGoOn, ShardsGoOn}
+use Rattle.fdb_txn.specs.rules.Messages.{MessagesAreStamped}
 use Rattle.fdb_txn.specs.rules.SerialMap.{serial_map, up_to, serial_map_at}
+use Rattle.fdb_txn.specs.rules.Stamped.{stamped_at}
 use Rattle.fdb_txn.specs.laws.SerialMapLaws.{version_after}
 use Rattle.fdb_txn.specs.declared.tag_msg.TagMsg.{TagMsg}
 use Rattle.fdb_txn.proofs.book.HistoryLemmas.{AtMost, add_places-newer, up_to-all, up_to-above}
@@ -100,6 +104,62 @@ messages-for_range splits range seen (entry ∷ book) = (
 pub messages_are_for_the_range : MessagesAreForTheRange
 messages_are_for_the_range splits range book = messages-for_range splits range nothing book
 
+-- mutations that have a stamp wait for none
+none-waits : (stamp : List ℕ) (mutations : List Mutation)
+    → AllByRecursion (λ (mutation : Mutation). is_stamped mutation ≡ false) (map (stamped stamp) mutations)
+none-waits stamp [] = tt
+none-waits stamp (mutation ∷ mutations) = (stamps_are_final stamp mutation, none-waits stamp mutations)
+
+-- nor does any of those that the committed transactions of a batch write
+none-waits-from : (splits : List Point) (head : Head) (p : ℕ) (batch : List Transaction) (earlier : List Place)
+    → AllByRecursion (λ (mutation : Mutation). is_stamped mutation ≡ false)
+    (mutations_in (committed_from splits head p batch earlier))
+none-waits-from splits head p [] earlier = tt
+none-waits-from splits head p (t ∷ ts) earlier =
+    subst (AllByRecursion (λ (mutation : Mutation). is_stamped mutation ≡ false))
+    (sym (map-append (λ (sent : ℕ × Mutation). sent.1) (if is_committed then at_place p (stamped_at place) else [])
+    (committed_from splits head (suc p) ts (place ∷ earlier))))
+    (all-append _ (mutations_in (if is_committed then at_place p (stamped_at place) else []))
+    (mutations_in (committed_from splits head (suc p) ts (place ∷ earlier)))
+    (subst (AllByRecursion (λ (mutation : Mutation). is_stamped mutation ≡ false))
+    (sym (mutations-if p is_committed (stamped_at place)))
+    (by_commits is_committed))
+    (none-waits-from splits head (suc p) ts (place ∷ earlier)))
+  where
+    place : Place
+    place = placed head p t
+
+    is_committed : Bool
+    is_committed = committed splits earlier place
+
+    by_commits : (commits : Bool) → AllByRecursion (λ (mutation : Mutation). is_stamped mutation ≡ false)
+        (if commits then stamped_at place else [])
+    by_commits true = none-waits (stamp_bytes place.version place.number) t.mutations
+    by_commits false = tt
+
+-- what is left of mutations has what holds of all of them
+all-kept : (keep : Mutation → Bool) (P : Mutation → Type 0) (mutations : List Mutation)
+    → AllByRecursion P mutations → AllByRecursion P (filter keep mutations)
+all-kept keep P [] all = tt
+all-kept keep P (mutation ∷ mutations) all = ⊎_elim
+    (λ stays. subst (AllByRecursion P)
+    (sym (cond-true (keep mutation) (mutation ∷ filter keep mutations) (filter keep mutations) stays))
+    (all.0, all-kept keep P mutations all.1))
+    (λ goes. subst (AllByRecursion P)
+    (sym (cond-false (keep mutation) (mutation ∷ filter keep mutations) (filter keep mutations) goes))
+    (all-kept keep P mutations all.1))
+    (cases_Bool (keep mutation))
+
+pub messages_are_stamped : MessagesAreStamped
+messages_are_stamped splits range before [] = tt
+messages_are_stamped splits range before (entry ∷ book) = (
+  subst (AllByRecursion (λ (mutation : Mutation). is_stamped mutation ≡ false))
+      (sym (mutations-filter (meets_range range) (committed_in splits before entry)))
+      (all-kept (meets_range range) _ (mutations_in (committed_in splits before entry))
+      (none-waits-from splits (head_of before entry) 0 entry.batch before.places)),
+  messages_are_stamped splits range (add_entry before entry) book,
+)
+
 -- mutations that don't name the point may be left out
 value-kept : (keep : Mutation → Bool) (x : Point)
     → ((mutation : Mutation) → names mutation x ≡ true → keep mutation ≡ true)
@@ -141,13 +201,14 @@ serial_map-add_places splits head p [] earlier = refl
 serial_map-add_places splits head p (t ∷ ts) earlier =
     serial_map-add_places splits head (suc p) ts (place ∷ earlier)
     ∙ ap (λ (map : Map). effects map (mutations_in others))
-    (effects-if (serial_map splits earlier) is_committed t.mutations)
-    ∙ sym (fold-append effect (serial_map splits earlier) (if is_committed then t.mutations else [])
+    (effects-if (serial_map splits earlier) is_committed (stamped_at place))
+    ∙ sym (fold-append effect (serial_map splits earlier) (if is_committed then stamped_at place else [])
     (mutations_in others))
     ∙ ap (λ (here : List Mutation). effects (serial_map splits earlier) (here ++ mutations_in others))
-    (sym (mutations-if p is_committed t.mutations))
+    (sym (mutations-if p is_committed (stamped_at place)))
     ∙ ap (effects (serial_map splits earlier))
-    (sym (map-append (λ (sent : ℕ × Mutation). sent.1) (if is_committed then at_place p t.mutations else []) others))
+    (sym (map-append (λ (sent : ℕ × Mutation). sent.1) (if is_committed then at_place p (stamped_at place) else [])
+    others))
   where
     place : Place
     place = placed head p t

@@ -1,6 +1,7 @@
 -- The run, at points that committed transactions write and read.
-use Rattle.std.proofs.Common.{◌≡◌, ◌∙◌, sym, ap, refl, ℕ, suc, ◌<◌, ◌≤◌, le_trans, Bool, true, false, not, ◌&&◌, nat_lt}
-use Rattle.std.proofs.Common.{nat_le, List, [], ◌∷◌, length, ⊎_elim}
+use Rattle.std.proofs.Common.{◌≡◌, ◌∙◌, sym, ap, ap₂, refl, ℕ, suc, ◌<◌, ◌≤◌, le_trans, Bool, true, false, not, ◌&&◌}
+use Rattle.std.proofs.Common.{nat_lt}
+use Rattle.std.proofs.Common.{nat_le, ◌||◌, List, [], ◌∷◌, map, length, ⊎_elim}
 use Rattle.std.specs.List.{AllByRecursion}
 use Rattle.std.specs.FinMap.{get}
 use Rattle.std.proofs.lemmas.Bool.{cases_Bool, cond-false, leb-true, leb-false, lt-leb, lt-ltb, eq-eqb, and_parts}
@@ -11,13 +12,17 @@ use Rattle.fdb_keys.proofs.Exports.{all-weaken}
 use Rattle.fdb_mutations.specs.declared.mutation.Mutation.{Mutation}
 use Rattle.fdb_mutations.specs.Maps.{Map}
 use Rattle.fdb_mutations.specs.Mutations.{names, new_value, effect, effects}
-use Rattle.fdb_mutations.proofs.Exports.{at_every_point}
+use Rattle.fdb_mutations.specs.Naming.{NamedKeys, is_named}
+use Rattle.fdb_mutations.specs.Stamping.{stamped}
+use Rattle.fdb_mutations.specs.Stamps.{stamp_bytes}
+use Rattle.fdb_mutations.proofs.Exports.{at_every_point, stamps_keep_names}
 use Rattle.fdb_txn.specs.book.Transactions.{some_names}
 use Rattle.fdb_txn.specs.book.Book.{Place}
 use Rattle.fdb_txn.specs.rules.Owners.{owner}
 use Rattle.fdb_txn.specs.rules.Admission.{overlaps, no_conflict, admits, committed}
 use Rattle.fdb_txn.specs.book.History.{Follows, IsHistory}
 use Rattle.fdb_txn.specs.rules.SerialMap.{serial_map, up_to, serial_map_at}
+use Rattle.fdb_txn.specs.rules.Stamped.{stamped_at}
 use Rattle.fdb_txn.specs.laws.SerialMapLaws.{ReadsStand}
 use Rattle.fdb_txn.proofs.rules.AskedLemmas.{all_below-decides, owner-exists}
 use Rattle.fdb_txn.proofs.rules.CornersLemmas.{overlaps_at_some_point}
@@ -71,15 +76,25 @@ at_most-follow v place others reached follow = (
       (λ (other : Place) follows. le_trans follows.0 reached) others follow,
 )
 
+-- stamped mutations name what they named before
+some_names-stamped : (stamp : List ℕ) (mutations : List Mutation) (x : Point)
+    → some_names (map (stamped stamp) mutations) x ≡ some_names mutations x
+some_names-stamped stamp [] x = refl
+some_names-stamped stamp (mutation ∷ mutations) x =
+    ap₂ (λ (here others : Bool). here || others)
+    (ap (λ (keys : NamedKeys). is_named keys x) (stamps_keep_names stamp mutation))
+    (some_names-stamped stamp mutations x)
+
 -- one place more, at a point that it names only if it isn't committed
 get-serial_map-unnamed : (splits : List Point) (others : List Place) (place : Place) (x : Point)
     → (committed splits others place ≡ true → some_names place.transaction.mutations x ≡ false)
     → get (serial_map splits (place ∷ others)) x ≡ get (serial_map splits others) x
 get-serial_map-unnamed splits others place x unnamed =
-    cond_both (committed splits others place) (effects (serial_map splits others) place.transaction.mutations)
+    cond_both (committed splits others place) (effects (serial_map splits others) (stamped_at place))
     (serial_map splits others)
-    (λ (map : Map). get map x ≡ get (serial_map splits others) x)
-    (λ commits. get-effects-unnamed (serial_map splits others) place.transaction.mutations x (unnamed commits))
+    (λ (there : Map). get there x ≡ get (serial_map splits others) x)
+    (λ commits. get-effects-unnamed (serial_map splits others) (stamped_at place) x
+    (some_names-stamped (stamp_bytes place.version place.number) place.transaction.mutations x ∙ unnamed commits))
     (λ aborts. refl)
 
 -- without a conflict, the map at the read version and the map after the earlier places have the same at each

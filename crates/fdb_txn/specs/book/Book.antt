@@ -6,7 +6,7 @@ use Rattle.fdb_txn.specs.declared.entry.Entry.{Entry}
 use Rattle.fdb_txn.specs.book.Transactions.{Transaction}
 
 -- a move with the version of its entry
-pub record Stamped : Type 0 where
+pub record DatedMove : Type 0 where
   pub version : ℕ
   pub range : Range
   pub target : ℕ
@@ -15,32 +15,32 @@ pub record Stamped : Type 0 where
 pub record Head : Type 0 where
   pub version : ℕ
   pub horizon : ℕ
-  pub moves : List Stamped
+  pub moves : List DatedMove
 
 -- a transaction at its place, with what its entry's head says and the place's number in the entry
 pub record Place : Type 0 where
   pub version : ℕ
   pub horizon : ℕ
-  pub moves : List Stamped
+  pub moves : List DatedMove
   pub number : ℕ
   pub transaction : Transaction
 
 -- along the book: all moves and all places so far, the newest first
 pub record Seen : Type 0 where
-  pub moves : List Stamped
+  pub moves : List DatedMove
   pub places : List Place
 
 abbrev pub nothing : Seen
 nothing = record { moves = []; places = [] }
 
 -- the moves of one entry before the older ones; of one entry a later move is newer
-abbrev pub add_moves : ℕ → List Move → List Stamped → List Stamped
+abbrev pub add_moves : ℕ → List Move → List DatedMove → List DatedMove
 add_moves version [] older = older
 add_moves version (move ∷ moves) older =
     add_moves version moves (record { version = version; range = move.range; target = move.to } ∷ older)
 
 -- the head of an entry of this version and horizon, by all moves through it
-abbrev pub head_at : ℕ → ℕ → List Stamped → Head
+abbrev pub head_at : ℕ → ℕ → List DatedMove → Head
 head_at version horizon moves = record { version = version; horizon = horizon; moves = moves }
 
 -- the head of an entry after what was seen before it

@@ -4,7 +4,7 @@ use Rattle.std.specs.List.{AllByRecursion}
 use Rattle.fdb_txn.specs.declared.entry.Move.{Move}
 use Rattle.fdb_txn.specs.declared.entry.Entry.{Entry}
 use Rattle.fdb_txn.specs.book.Transactions.{Transaction, NamesWrites}
-use Rattle.fdb_txn.specs.book.Book.{Stamped, Place}
+use Rattle.fdb_txn.specs.book.Book.{DatedMove, Place}
 use Rattle.fdb_txn.specs.book.Once.{NoIdTwice}
 
 -- the versions of entries after a version: they rise, and each previous one is that of the entry before
@@ -49,15 +49,15 @@ pub record IsBook (resolvers : ℕ) (book : List Entry) : Type 0 where
 abbrev pub Follows : Place → Place → Type 0
 Follows later earlier =
     (earlier.version ≤ later.version)
-    × ((newer : List Stamped) × (later.moves ≡ newer ++ earlier.moves)
-    × AllByRecursion (λ (move : Stamped). earlier.version < move.version) newer)
+    × ((newer : List DatedMove) × (later.moves ≡ newer ++ earlier.moves)
+    × AllByRecursion (λ (move : DatedMove). earlier.version < move.version) newer)
 
 -- The transaction read below the place's version, all that its mutations name is in its write set, the moves are of
 -- versions up to the place's own and go to resolvers that exist, and the horizon lies below the place's version.
 abbrev pub IsPlace : ℕ → Place → Type 0
 IsPlace resolvers place =
     (place.transaction.read < place.version) × NamesWrites place.transaction
-    × AllByRecursion (λ (move : Stamped). (move.version ≤ place.version) × (move.target < resolvers)) place.moves
+    × AllByRecursion (λ (move : DatedMove). (move.version ≤ place.version) × (move.target < resolvers)) place.moves
     × (place.horizon < place.version)
 
 -- places of one book, the newest first

@@ -1,7 +1,7 @@
 -- What holds of overlaps, of who admits a place, and of who is asked about it.
 use Rattle.std.specs.Prelude.{◌≡◌, ◌<◌, ◌≤◌, ◌↔◌, ℕ, suc, true, false, List, ◌∷◌, ◌++◌, length}
 use Rattle.fdb_keys.specs.Points.{Point}
-use Rattle.fdb_txn.specs.book.Book.{Stamped, Place}
+use Rattle.fdb_txn.specs.book.Book.{DatedMove, Place}
 use Rattle.fdb_txn.specs.rules.Owners.{owner, owned, asked_at, is_asked}
 use Rattle.fdb_txn.specs.rules.Admission.{is_fresh, overlaps_at, overlaps, admits, committed}
 use Rattle.fdb_txn.specs.book.History.{IsHistory}
@@ -21,7 +21,7 @@ AskedAtSomePoint =
 -- `owned` holds exactly where the resolver is the owner at some version above low and at most high
 abbrev pub OwnedAtSomeVersion : Type 0
 OwnedAtSomeVersion =
-    (splits : List Point) (i : ℕ) (moves : List Stamped) (x : Point) (low high : ℕ)
+    (splits : List Point) (i : ℕ) (moves : List DatedMove) (x : Point) (low high : ℕ)
     → (owned splits i moves x low high ≡ true) ↔ ((v : ℕ) × (low < v) × (v ≤ high) × (owner splits moves x v ≡ i))
 
 -- A conflict of the place at resolver i: an earlier place of a version above the place's read version, that i

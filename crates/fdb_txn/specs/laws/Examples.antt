@@ -52,6 +52,12 @@ entry_of version prev moves batch = record {
 abbrev pub with_horizon : ℕ → Entry → Entry
 with_horizon horizon entry = record entry { horizon = horizon }
 
+-- entries at 100, 250 and 251, the last two of these horizons
+abbrev pub of_horizons : ℕ → ℕ → List Entry
+of_horizons second third =
+    entry_of 100 0 [] [] ∷ with_horizon second (entry_of 250 100 [] []) ∷ with_horizon third (entry_of 251 250 [] [])
+    ∷ []
+
 -- the keys from one up to another go over to a resolver
 abbrev pub move_of : Point → Point → ℕ → Move
 move_of begin end target = record { range = record { begin = begin; end = end }; to = target }
@@ -284,7 +290,7 @@ Horizon =
 
 -- The horizon of an entry, after that of the one before it: it rises with the version, is 0 where the window is
 -- greater than the version, stays where the window grows as much as the version rises, and would fall where it grows
--- by more, but stays.
+-- by more, but stays. The last horizon is that of the last entry, whatever the others are, and 0 where there is none.
 abbrev pub Horizons : Type 0
 Horizons =
     (next_horizon 0 150 250 ≡ 100)
@@ -292,7 +298,9 @@ Horizons =
     × (next_horizon 0 5000000 250 ≡ 0)
     × (next_horizon 101 151 252 ≡ 101)
     × (next_horizon 101 5000000 252 ≡ 101)
+    × (last_horizon [] ≡ 0)
     × (last_horizon a_horizon ≡ 101)
+    × (last_horizon (of_horizons 100 99) ≡ 99)
 
 -- At 100 nothing. At 301 the keys from m up to t go over to resolver 0. At 5000299 transaction 0, and at 5000300
 -- transaction 1, read p at version 100 and set z.
@@ -420,12 +428,6 @@ abbrev pub of_three_ids : List Entry
 of_three_ids =
     entry_of 1 0 [] (reads_and_sets 0 0 [] [] ∷ reads_and_sets 1 0 [] [] ∷ [])
     ∷ entry_of 2 1 [] (record (reads_and_sets 0 1 [] []) { id = record { session = 0; number = 1 } } ∷ [])
-    ∷ []
-
--- entries at 100, 250 and 251, the last two of these horizons
-abbrev pub of_horizons : ℕ → ℕ → List Entry
-of_horizons second third =
-    entry_of 100 0 [] [] ∷ with_horizon second (entry_of 250 100 [] []) ∷ with_horizon third (entry_of 251 250 [] [])
     ∷ []
 
 -- Which lists are books of two resolvers. By the ids of their transactions: with three ids for three transactions

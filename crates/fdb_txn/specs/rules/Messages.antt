@@ -1,5 +1,6 @@
 -- What logs send a shard of each entry, and what the messages leave at a point.
-use Rattle.std.specs.Prelude.{◌≡◌, ◌≤◌, ◌↔◌, ℕ, suc, Bool, true, nat_le, List, [], ◌∷◌, ◌++◌, fold, filter, map, Option}
+use Rattle.std.specs.Prelude.{◌≡◌, ◌≤◌, ◌↔◌, ℕ, suc, Bool, true, false, nat_le, List, [], ◌∷◌, ◌++◌, fold, filter, map}
+use Rattle.std.specs.Prelude.{Option}
 use Rattle.std.specs.Prelude.{None, if◌then◌else◌}
 use Rattle.std.specs.List.{AllByRecursion}
 use Rattle.std.specs.FinMap.{get}
@@ -7,6 +8,7 @@ use Rattle.fdb_keys.specs.Points.{Point}
 use Rattle.fdb_keys.specs.Ranges.{Range, in_range, ranges_meet}
 use Rattle.fdb_mutations.specs.declared.mutation.Mutation.{Mutation}
 use Rattle.fdb_mutations.specs.Mutations.{names, named_range, value_after}
+use Rattle.fdb_mutations.specs.Stamping.{is_stamped}
 use Rattle.fdb_txn.specs.declared.entry.Entry.{Entry}
 use Rattle.fdb_txn.specs.declared.tag_msg.TagMsg.{TagMsg}
 use Rattle.fdb_txn.specs.book.Transactions.{Transaction}
@@ -14,6 +16,7 @@ use Rattle.fdb_txn.specs.book.Book.{Head, Place, Seen, nothing, head_of, placed,
 use Rattle.fdb_txn.specs.rules.Admission.{committed}
 use Rattle.fdb_txn.specs.book.History.{AreEntries}
 use Rattle.fdb_txn.specs.rules.SerialMap.{serial_map_at}
+use Rattle.fdb_txn.specs.rules.Stamped.{stamped_at}
 
 -- the mutation names a point of the range
 abbrev pub meets_range : Range → Mutation → Bool
@@ -27,16 +30,16 @@ Body = List (ℕ × Mutation)
 abbrev pub mutations_in : Body → List Mutation
 mutations_in body = map (λ (sent : ℕ × Mutation). sent.1) body
 
--- a transaction's mutations at its place
+-- mutations at a place
 abbrev pub at_place : ℕ → List Mutation → Body
 at_place p mutations = map (λ (mutation : Mutation). (p, mutation)) mutations
 
--- the mutations of those transactions of a batch, from place p on, that are committed: by place, and then in the
--- transaction's order
+-- the stamped mutations of those transactions of a batch, from place p on, that are committed: by place, and then in
+-- the transaction's order
 abbrev pub committed_from : List Point → Head → ℕ → List Transaction → List Place → Body
 committed_from splits head p [] earlier = []
 committed_from splits head p (t ∷ ts) earlier =
-    (if committed splits earlier (placed head p t) then at_place p t.mutations else [])
+    (if committed splits earlier (placed head p t) then at_place p (stamped_at (placed head p t)) else [])
     ++ committed_from splits head (suc p) ts (placed head p t ∷ earlier)
 
 -- the mutations of an entry's committed transactions
@@ -89,6 +92,17 @@ abbrev pub MessagesAreForTheRange : Type 0
 MessagesAreForTheRange =
     (splits : List Point) (range : Range) (book : List Entry)
     → AllByRecursion (IsForRange range) (messages_for splits range book)
+
+-- no mutation of the message waits for a stamp
+abbrev pub HasNoStamped : TagMsg → Type 0
+HasNoStamped message =
+    AllByRecursion (λ (mutation : Mutation). is_stamped mutation ≡ false) (mutations_in message.body)
+
+-- whatever was seen before, a message has stamped mutations alone
+abbrev pub MessagesAreStamped : Type 0
+MessagesAreStamped =
+    (splits : List Point) (range : Range) (before : Seen) (book : List Entry)
+    → AllByRecursion HasNoStamped (messages_after splits range before book)
 
 -- A shard holds the run: at each point of its range and each version, its messages leave what stands there on
 -- the serial map at that version.

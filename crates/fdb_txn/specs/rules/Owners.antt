@@ -4,7 +4,7 @@ use Rattle.std.specs.Prelude.{if◌then◌else◌}
 use Rattle.std.specs.List.{list_any}
 use Rattle.fdb_keys.specs.Points.{Point, point_lt}
 use Rattle.fdb_keys.specs.Ranges.{Range, in_range, in_set}
-use Rattle.fdb_txn.specs.book.Book.{Stamped, Place}
+use Rattle.fdb_txn.specs.book.Book.{DatedMove, Place}
 
 -- the number of the piece between splits in which the point lies
 abbrev pub first_owner : List Point → Point → ℕ
@@ -12,7 +12,7 @@ first_owner [] x = 0
 first_owner (split ∷ splits) x = if point_lt x split then 0 else suc (first_owner splits x)
 
 -- the target of the last move of version at most v whose range holds the point, else its first owner
-abbrev pub owner : List Point → List Stamped → Point → ℕ → ℕ
+abbrev pub owner : List Point → List DatedMove → Point → ℕ → ℕ
 owner splits [] x v = first_owner splits x
 owner splits (move ∷ older) x v =
     if nat_le move.version v && in_range move.range x then move.target else owner splits older x v
@@ -24,15 +24,15 @@ bounds (range ∷ ranges) = range.begin ∷ range.end ∷ bounds ranges
 
 -- Between two neighbours among these points every range, set and owner concerned answers alike. So a test
 -- of them holds at some point exactly where it holds at one of these.
-abbrev pub corners : List Point → List Stamped → List Range → List Point
-corners splits moves ranges = [] ∷ (splits ++ (bounds (map (λ (move : Stamped). move.range) moves) ++ bounds ranges))
+abbrev pub corners : List Point → List DatedMove → List Range → List Point
+corners splits moves ranges = [] ∷ (splits ++ (bounds (map (λ (move : DatedMove). move.range) moves) ++ bounds ranges))
 
 -- the versions at which an owner may be another than at the version before, from just above v on
-abbrev pub version_corners : ℕ → List Stamped → List ℕ
-version_corners v moves = suc v ∷ map (λ (move : Stamped). move.version) moves
+abbrev pub version_corners : ℕ → List DatedMove → List ℕ
+version_corners v moves = suc v ∷ map (λ (move : DatedMove). move.version) moves
 
 -- resolver i owned the point at some version above low and at most high
-abbrev pub owned : List Point → ℕ → List Stamped → Point → ℕ → ℕ → Bool
+abbrev pub owned : List Point → ℕ → List DatedMove → Point → ℕ → ℕ → Bool
 owned splits i moves x low high =
     list_any (λ v. nat_lt low v && nat_le v high && (owner splits moves x v == i)) (version_corners low moves)
 

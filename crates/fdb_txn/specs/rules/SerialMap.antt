@@ -6,12 +6,14 @@ use Rattle.fdb_mutations.specs.Maps.{Map}
 use Rattle.fdb_mutations.specs.Mutations.{effects}
 use Rattle.fdb_txn.specs.book.Book.{Place}
 use Rattle.fdb_txn.specs.rules.Admission.{committed}
+use Rattle.fdb_txn.specs.rules.Stamped.{stamped_at}
 
--- the map after these places, of which the newest is the first
+-- the map after these places, of which the newest is the first: each committed one leaves what its mutations do,
+-- stamped by its version and its place
 abbrev pub serial_map : List Point → List Place → Map
 serial_map splits [] = empty
 serial_map splits (place ∷ earlier) =
-    if committed splits earlier place then effects (serial_map splits earlier) place.transaction.mutations
+    if committed splits earlier place then effects (serial_map splits earlier) (stamped_at place)
     else serial_map splits earlier
 
 -- the places of version at most v

@@ -4,32 +4,38 @@ use Rattle.std.proofs.Common.{arith}
 use Rattle.std.proofs.Common.{Option, Some, None, Result, Ok, Err, slice_get, if◌then◌else◌}
 use Rattle.std.specs.Prelude.{nat_lt}
 use Rattle.std.specs.List.{list_any}
-use Rattle.std.specs.Option.{option_map}
+use Rattle.std.specs.Option.{option_map, option_or}
+use Rattle.std.proofs.lemmas.Bool.{both_ways}
 use Rattle.std.proofs.lemmas.Option.{slice_get-map}
 use Rattle.fdb_keys.specs.declared.refusal.Refusal.{Refusal}
-use Rattle.fdb_keys.specs.declared.refusal.Refusal.TheVariants.{Failed, FutureVersion, TransactionTooOld, Unknown}
+use Rattle.fdb_keys.specs.declared.refusal.Refusal.TheVariants.{AccessedUnreadable, Failed, FutureVersion}
+use Rattle.fdb_keys.specs.declared.refusal.Refusal.TheVariants.{NoMemory, TransactionTooOld, Unknown}
 use Rattle.fdb_keys.specs.Points.{Point}
 use Rattle.fdb_txn.specs.rules.Owners.{first_owner}
 use Rattle.fdb_txn.proofs.Exports.{owner-exists}
 use Rattle.fdb_client.specs.declared.program.Op.{Op}
 use Rattle.fdb_client.specs.declared.program.Op.TheVariants as op
 use Rattle.fdb_client.specs.declared.program.Transcript.{Transcript}
-use Rattle.fdb_client.specs.Programs.{program, decided}
+use Rattle.fdb_client.specs.Programs.{program, copy, decided}
+use Rattle.fdb_client.specs.Unreadable.{scan_fault, unless_out, unreadable}
+use Rattle.fdb_client.proofs.Exports.{unreadable-decided}
 use Rattle.fdb_storage.specs.Shards.{serving_fault}
 use Rattle.fdb_core.specs.declared.cluster.Cluster.{Cluster}
 use Rattle.fdb_core.specs.declared.roles.shard.ShardRole.{ShardRole}
 use Rattle.fdb_machine.specs.machine.ClientSteps.{reads, answered_by, read_fault, fault_after, reply_after}
-use Rattle.fdb_machine.specs.machine.ClientSteps.{add_operation, shard_begins}
+use Rattle.fdb_machine.specs.machine.ClientSteps.{add_operation, map_read, shard_begins}
 use Rattle.fdb_machine.specs.machine.ClientSteps as machine
+use Rattle.fdb_machine.specs.declared.step.Answered.{Answered}
 use Rattle.fdb_machine.specs.machine.Failures.{Failures, asks_failed, reads_failed, unless_failed}
 use Rattle.fdb_machine.specs.machine.Machine.{Machine, Transition, is_set, refused_by}
 use Rattle.fdb_machine.specs.machine.RoleSteps.{shard_fault}
 use Rattle.fdb_machine.specs.machine.Sessions.{open_at}
 use Rattle.fdb_core.specs.refinement.Cluster.{machine_of}
+use Rattle.fdb_core.specs.refinement.client.Reading.{call_fault}
 use Rattle.fdb_core.specs.refinement.log.Ties.{progress_of}
 use Rattle.fdb_core.specs.refinement.shard.RangeFaults.{unrefused}
 use Rattle.fdb_machine.proofs.Exports.{of-range, reads-transition, reads-refused}
-use Rattle.fdb_core.specs.refinement.shard.Reads.{ShardReads, key_fault, range_fault, point_fault}
+use Rattle.fdb_core.specs.refinement.shard.Reads.{ShardReads, key_fault, range_fault, point_fault, run_map}
 use Rattle.fdb_roles.proofs.Exports.{within-item}
 
 -- a version that isn't served is too old or not there yet
@@ -53,7 +59,42 @@ failed_shards k = map (λ (role : ShardRole). role.state.is_failed) k.shards.ite
 -- why the shards refuse a read of the transaction
 abbrev pub fault_at : ShardReads → Transcript → Op → Option Refusal
 fault_at shards transcript operation =
-    read_fault (key_fault shards) (range_fault shards) (program transcript.ops) operation
+    read_fault (key_fault shards) (range_fault shards) (run_map shards) (program transcript.ops) operation
+
+-- why a call that reads there is refused, by what it answered
+abbrev pub call_fault_at : Result Answered Refusal → ShardReads → Transcript → Op → Option Refusal
+call_fault_at result shards transcript operation =
+    call_fault result (key_fault shards) (range_fault shards) (run_map shards) (program transcript.ops) operation
+
+-- one that gave something was refused for nothing
+pub call_fault-given : (given : Answered) (shards : ShardReads) (transcript : Transcript) (operation : Op)
+    → call_fault_at (Ok given) shards transcript operation ≡ fault_at shards transcript operation
+call_fault-given given shards transcript (op.Get key snapshot) = refl
+call_fault-given given shards transcript (op.Range range limit is_reverse snapshot) = refl
+call_fault-given given shards transcript (op.Write mutation) = refl
+call_fault-given given shards transcript (op.AddRead range) = refl
+call_fault-given given shards transcript (op.AddWrite range) = refl
+
+-- and a fault of one that was refused is one of the read
+pub call_fault-refused : (why : Refusal) (shards : ShardReads) (transcript : Transcript) (operation : Op)
+    → call_fault_at (Err why) shards transcript operation ≡ Some why
+    → fault_at shards transcript operation ≡ Some why
+call_fault-refused why shards transcript (op.Get key snapshot) faulty = faulty
+call_fault-refused why shards transcript (op.Range range limit is_reverse snapshot) faulty =
+    by_shards (range_fault shards range) _ faulty
+  where
+    by_reason : (why one : Refusal) (scan : Option Refusal)
+        → unless_out {T = Answered} (Err why) scan ≡ Some one → scan ≡ Some one
+    by_reason NoMemory one scan is = cc
+    by_reason why one scan is = is
+
+    by_shards : (fault scan : Option Refusal)
+        → option_or fault (unless_out {T = Answered} (Err why) scan) ≡ Some why → option_or fault scan ≡ Some why
+    by_shards None scan is = by_reason why why scan is
+    by_shards (Some first) scan is = is
+call_fault-refused why shards transcript (op.Write mutation) faulty = faulty
+call_fault-refused why shards transcript (op.AddRead range) faulty = faulty
+call_fault-refused why shards transcript (op.AddWrite range) faulty = faulty
 
 -- why the machine refuses it: it asks a shard that has failed, or else has a fault
 abbrev pub read_refusal : Machine → Failures → Transcript → Op → Option Refusal
@@ -70,25 +111,42 @@ module _ (k : Cluster) (failed : Failures) (flags : failed.shards ≡ failed_sha
   pub read_fault-is : (operation : Op)
       → fault_at (reads_of k transcript.read_version) transcript operation
       ≡ read_refusal (machine_of k) failed transcript operation
-  read_fault-is (op.Get key snapshot) = by_decided (decided (program transcript.ops) key)
+  read_fault-is (op.Get key snapshot) = by_own (unreadable ops key) (decided ops key) (unreadable-decided ops key)
     where
+      ops : List Op
+      ops = program transcript.ops
+
       shard : ℕ
       shard = first_owner k.config.shard_splits key
 
       unserved : Option Refusal
       unserved = point_fault (reads_of k transcript.read_version) key
 
-      by_decided : (is_decided : Bool)
-          → (if is_decided then None else (if is_set (failed_shards k) shard then Some Failed else unserved))
+      by_own : (hidden is_decided : Bool) → (hidden ≡ true → is_decided ≡ true)
+          → (if hidden then Some AccessedUnreadable
+          else (if is_decided then None else (if is_set (failed_shards k) shard then Some Failed else unserved)))
           ≡ (if not is_decided && is_set failed.shards shard then Some Failed
-          else (if is_decided then None else unserved))
-      by_decided true = refl
-      by_decided false = ap (λ (them : List Bool). if is_set them shard then Some Failed else unserved) (sym flags)
+          else (if hidden then Some AccessedUnreadable else (if is_decided then None else unserved)))
+      by_own true true decides = refl
+      by_own true false decides = absurd (both_ways false refl (decides refl))
+      by_own false true decides = refl
+      by_own false false decides =
+          ap (λ (them : List Bool). if is_set them shard then Some Failed else unserved) (sym flags)
   read_fault-is (op.Range range limit is_reverse snapshot) =
-      ap (λ (them : List Bool).
+      asked_first (list_any (λ (x : Point). is_set (failed_shards k) (first_owner k.config.shard_splits x))
+      (shard_begins k.config.shard_splits range))
+      (machine.range_fault (machine_of k) transcript.read_version range)
+      (scan_fault (copy (map_read (machine_of k) transcript) (program transcript.ops)) (program transcript.ops) range
+      limit is_reverse)
+      ∙ ap (λ (them : List Bool).
       if list_any (λ (x : Point). is_set them (first_owner k.config.shard_splits x))
       (shard_begins k.config.shard_splits range) then Some Failed
-      else machine.range_fault (machine_of k) transcript.read_version range) (sym flags)
+      else fault_after (machine_of k) transcript (op.Range range limit is_reverse snapshot)) (sym flags)
+    where
+      asked_first : (asks : Bool) (fault scan : Option Refusal)
+          → option_or (if asks then Some Failed else fault) scan ≡ (if asks then Some Failed else option_or fault scan)
+      asked_first true fault scan = refl
+      asked_first false fault scan = refl
   read_fault-is (op.Write mutation) = refl
   read_fault-is (op.AddRead range) = refl
   read_fault-is (op.AddWrite range) = refl
@@ -107,20 +165,29 @@ module _ (k : Cluster) (as_many : length k.shards.items ≡ suc (length k.config
 
   pub fault-known : (transcript : Transcript) (operation : Op)
       → fault_after (machine_of k) transcript operation ≡ Some Unknown → ⊥
-  fault-known transcript (op.Get key snapshot) = by_decided (decided (program transcript.ops) key)
+  fault-known transcript (op.Get key snapshot) =
+      by_own (unreadable (program transcript.ops) key) (decided (program transcript.ops) key)
     where
-      by_decided : (is_decided : Bool)
-          → (if is_decided then None else machine.point_fault (machine_of k) transcript.read_version key) ≡ Some Unknown
-          → ⊥
-      by_decided true refused = cc
-      by_decided false refused = point-known transcript.read_version key refused
+      by_own : (hidden is_decided : Bool)
+          → (if hidden then Some AccessedUnreadable
+          else (if is_decided then None else machine.point_fault (machine_of k) transcript.read_version key))
+          ≡ Some Unknown → ⊥
+      by_own true is_decided refused = cc
+      by_own false true refused = cc
+      by_own false false refused = point-known transcript.read_version key refused
   fault-known transcript (op.Range range limit is_reverse snapshot) = λ refused.
       let point = of-range k.config.shard_splits range
       (machine.point_fault (machine_of k) transcript.read_version)
       (λ x y same. ap (λ (n : ℕ).
       shard_fault k.book.items transcript.read_version (slice_get (map progress_of k.shards.items) n)) same)
-      Unknown refused in
+      Unknown (not_scanned _ _ refused) in
       point-known transcript.read_version point.0 point.2
+    where
+      not_scanned : (fault : Option Refusal) (hidden : Bool)
+          → option_or fault (if hidden then Some AccessedUnreadable else None) ≡ Some Unknown → fault ≡ Some Unknown
+      not_scanned None true refused = cc
+      not_scanned None false refused = cc
+      not_scanned (Some why) hidden refused = refused
   fault-known transcript (op.Write mutation) = λ refused. cc
   fault-known transcript (op.AddRead range) = λ refused. cc
   fault-known transcript (op.AddWrite range) = λ refused. cc

@@ -31,6 +31,7 @@ use Rattle.fdb_core.specs.refinement.shard.Reads.{ShardReads, AreReadable, run_m
 use Rattle.fdb_machine.proofs.Exports.{unless-fault, Unless}
 use Rattle.fdb_roles.proofs.Exports.{answers-fault, entries-rising, serial-front}
 use Rattle.fdb_core.proofs.refinement.client.ReadFaults.{reads_of, failed_shards, fault_at, read_refusal, read_step}
+use Rattle.fdb_core.proofs.refinement.client.ReadFaults.{call_fault-given, call_fault-refused, call_fault_at}
 use Rattle.fdb_core.proofs.refinement.client.ReadFaults.{fault-known, read_fault-is, read-refused, read-accepted}
 
 -- what is shown is that
@@ -79,12 +80,12 @@ module _ (k : Cluster) (failed : Failures) (session : ℕ) (operation : Op) (tra
     abbrev pub HasNoted : Reply → Type 0
     HasNoted reply = sessions ≡ with_state k.sessions session (Open (with_op transcript operation reply))
 
-    -- the call is refused as the shards refuse the read, and else gives the reply on the serial map, which the
-    -- transaction has noted
+    -- the call is refused as the shards refuse the read, unless memory ran out, and else gives the reply on the serial
+    -- map, which the transaction has noted
     abbrev pub AnswersAt : ShardReads → Result Answered Refusal → Type 0
     AnswersAt shown result =
         let reply = reply_on (copy (run_map shown) (program transcript.ops)) operation in
-        Answers result (fault_at shown transcript operation)
+        Answers result (call_fault_at result shown transcript operation)
         (λ (given : Answered). (given ≡ answered_by reply) × HasNoted reply)
 
     -- for the machine the reply is the same
@@ -115,15 +116,19 @@ module _ (k : Cluster) (failed : Failures) (session : ℕ) (operation : Op) (tra
       answer-follows given answers =
           let there : AnswersAt (reads_of k transcript.read_version) (Ok given) =
           subst (λ (it : ShardReads). AnswersAt it (Ok given)) same answers in
-          let parts = answers-fault (fault_at (reads_of k transcript.read_version) transcript operation) given
+          let parts = answers-fault
+          (call_fault_at (Ok given) (reads_of k transcript.read_version) transcript operation) given
           (λ (one : Answered). (one ≡ answered_by reply) × HasNoted reply) there in
+          let faultless =
+          sym (call_fault-given given (reads_of k transcript.read_version) transcript operation) ∙ parts.0 in
           let changed : machine_of (record k { sessions = sessions })
           ≡ record (machine_of k) {
             sessions = with_state k.sessions session (Open (with_op transcript operation reply));
           } =
           ap (λ (others : Sessions). record (machine_of k) { sessions = others }) parts.1.1 in (
             rw (parts.1.0, changed)
-                (read-accepted (machine_of k) failed session operation transcript is_open (sym faults-alike ∙ parts.0)),
+                (read-accepted (machine_of k) failed session operation transcript is_open
+                (sym faults-alike ∙ faultless)),
             parts.1.1,
           )
 
@@ -131,11 +136,12 @@ module _ (k : Cluster) (failed : Failures) (session : ℕ) (operation : Op) (tra
       refusal-follows why answers =
           let there : AnswersAt (reads_of k transcript.read_version) (Err why) =
           subst (λ (it : ShardReads). AnswersAt it (Err why)) same answers in
-          unless-fault (fault_at (reads_of k transcript.read_version) transcript operation) why
+          unless-fault (call_fault_at (Err why) (reads_of k transcript.read_version) transcript operation) why
           (λ (one : Answered). (one ≡ answered_by reply) × HasNoted reply)
           (read_step (machine_of k) failed session operation ≡ Err why) there
           (λ faulty. read-refused (machine_of k) failed session operation transcript is_open
-          (fault-known k as_many transcript operation) why (sym faults-alike ∙ faulty))
+          (fault-known k as_many transcript operation) why (sym faults-alike
+          ∙ call_fault-refused why (reads_of k transcript.read_version) transcript operation faulty))
 
       -- So what the call owes is what the machine's step does, where the shards are read at the transaction's read
       -- version: whatever follows from the one and from the other case.

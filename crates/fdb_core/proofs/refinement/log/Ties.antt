@@ -23,6 +23,8 @@ use Rattle.fdb_log.specs.declared.message.LogMsg.{LogMsg}
 use Rattle.fdb_log.specs.Logs.{Log, keeps, kept, popped_through, push_fault, given_after, peek_of, HasPopped}
 use Rattle.fdb_log.specs.Messages.{log_of, above}
 use Rattle.fdb_storage.specs.Shards.{Shard, HasApplied}
+use Rattle.fdb_storage.specs.StampedMessages.{stamped_fault}
+use Rattle.fdb_storage.proofs.Exports.{no_stamped_is_sent}
 use Rattle.fdb_proxy.specs.declared.config.Config.{Config}
 use Rattle.fdb_roles.specs.AtBook.{IsShardAt}
 use Rattle.fdb_roles.specs.Entries.{IsRising}
@@ -139,6 +141,10 @@ module _ (config : Config) (book : List Entry)
       ap (λ (v : ℕ). given_after log.state s v limit) is.version
       ∙ gives-messages config front left entries-taken s limit log.state kept-is unpopped-front
       ∙ ap (messages_after splits range (seen_of front)) left-is
+
+  -- none of them has a mutation that waits for a stamp
+  pub given-stamped : stamped_fault (given_after log.state s shard.state.version limit) ≡ None
+  given-stamped = ap stamped_fault given-is ∙ no_stamped_is_sent splits range (seen_of front) more
 
   within : shard.applied + count ≤ length book
   within = omega (arith, has.within, behind)

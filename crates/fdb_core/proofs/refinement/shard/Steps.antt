@@ -1,8 +1,9 @@
 -- A shard applies what its log has, forgets old versions, and has its log drop what it applied.
 use Rattle.std.proofs.Common.{◌≡◌, ◌∙◌, refl, sym, ap, subst, ℕ, suc, ◌+◌, ◌^◌, ◌%◌, ◌<◌, ◌≤◌, min, max, le_refl, Bool}
-use Rattle.std.proofs.Common.{true, false, length, List, map, take, Some, None, Ok, Err, arith}
+use Rattle.std.proofs.Common.{true, false, length, List, map, take, Option, Some, None, Ok, Err, arith}
 use Rattle.std.specs.Prelude.{◌==◌, nat_lt, if◌then◌else◌}
 use Rattle.std.specs.List.{slice_get, slice_set}
+use Rattle.std.specs.Option.{option_or}
 use Rattle.std.specs.Vec.{with_item}
 use Rattle.std.proofs.lemmas.Bool.{and_from, cond-false, eq-eqb, le-ltb, lt-ltb}
 use Rattle.std.proofs.lemmas.List.{length-map, length-set, map-set}
@@ -26,7 +27,7 @@ use Rattle.fdb_core.specs.refinement.log.Ties.{LogRefines, LogsRefine, ShardRefi
 use Rattle.fdb_core.specs.refinement.log.Ties.{progress_of}
 use Rattle.fdb_roles.proofs.Exports.{each-set, shard-forgot, entries-rising, versions-ordered}
 use Rattle.fdb_core.proofs.refinement.log.Ties.{set-same, log-popped, shard-pulled, count, count-is, tags-applied}
-use Rattle.fdb_core.proofs.refinement.log.Ties.{tags-popped, shard-at, shard-refines}
+use Rattle.fdb_core.proofs.refinement.log.Ties.{tags-popped, shard-at, shard-refines, given-stamped}
 use Rattle.fdb_core.proofs.refinement.RolesLemmas.{roles_of, roles-refine}
 
 -- what the machine does, once the shard and its log are found
@@ -201,7 +202,9 @@ module _ (k : Cluster) (before : Refines k) (s : ℕ) (role : ShardRole)
         → apply_fault role.state (peek_of log.state s role.state.version limit) ≡ None
     apply_fault-none limit =
         rw (eq-eqb s role.state.tag (sym its.tag), its.works, le-ltb role.state.version role.state.version (le_refl _))
-        refl
+        (ap (λ (fault : Option Refusal). option_or fault None) (given-stamped k.config k.book.items
+        before.book.entries s (log_of (length k.logs.items) s) limit role log log-is its keeps-it (tie log log_at).0
+        unpopped))
 
     -- how many messages are applied
     abbrev pub given : ℕ → ℕ

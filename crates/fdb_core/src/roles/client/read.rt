@@ -3,8 +3,8 @@ ghost use Rattle.std.specs.Prelude.{◌≡◌, OnErr};
 ghost use Rattle.fdb_keys.specs.Answers.{Answers};
 ghost use Rattle.fdb_client.specs.TxnState.{with_op};
 ghost use Rattle.fdb_client.specs.Programs.{program, copy, reply_on};
-ghost use Rattle.fdb_machine.specs.machine.ClientSteps.{answered_by, read_fault};
-ghost use Rattle.fdb_core.specs.refinement.client.Reading.{operation_of};
+ghost use Rattle.fdb_machine.specs.machine.ClientSteps.{answered_by};
+ghost use Rattle.fdb_core.specs.refinement.client.Reading.{operation_of, call_fault};
 
 use fdb_client::{Snapshot, Txn};
 use fdb_keys::{Key, KeyRange, Refusal};
@@ -22,7 +22,8 @@ pub(crate) enum Read<'a> {
     },
 }
 
-/// The transaction reads, as `Txn::get` and `Txn::get_range` do.
+/// The transaction reads, as `Txn::get` and `Txn::get_range` do, and is refused as they are. A refused read changes
+/// nothing.
 pub(crate) fn read_by<S: Snapshot>(
     txn: &mut Txn,
     snapshot: &S,
@@ -32,7 +33,9 @@ pub(crate) fn read_by<S: Snapshot>(
     requires { S.at snapshot.now ≡ txn.old.read_version }
     ensures answers { let earlier = program txn.old.ops in let operation = operation_of read.entry is_snapshot in
         let reply = reply_on (copy (S.map snapshot.now) earlier) operation in
-        Answers result (read_fault (S.key_fault snapshot.now) (S.range_fault snapshot.now) earlier operation)
+        Answers result
+        (call_fault result (S.key_fault snapshot.now) (S.range_fault snapshot.now) (S.map snapshot.now) earlier
+        operation)
         (λ given. (given ≡ answered_by reply) × (txn.new ≡ with_op txn.old operation reply)) }
     ensures err { OnErr result (txn.new ≡ txn.old) }
 {

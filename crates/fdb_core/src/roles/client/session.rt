@@ -40,10 +40,10 @@ impl Session {
     ghost use Rattle.fdb_client.specs.Programs.{program, copy, reply_on};
     ghost use Rattle.fdb_client.specs.declared.program.Reply.TheVariants as answer;
     ghost use Rattle.fdb_client.specs.declared.program.Transcript.{Transcript};
-    ghost use Rattle.fdb_machine.specs.machine.ClientSteps.{answered_by, read_fault};
+    ghost use Rattle.fdb_machine.specs.machine.ClientSteps.{answered_by};
     ghost use Rattle.fdb_machine.specs.machine.Sessions.{Idle, Open, open_of, is_busy, at_state};
     ghost use Rattle.fdb_core.specs.refinement.client.Noting.{noted_as, note_fault};
-    ghost use Rattle.fdb_core.specs.refinement.client.Reading.{operation_of};
+    ghost use Rattle.fdb_core.specs.refinement.client.Reading.{operation_of, call_fault};
     ghost use Rattle.fdb_roles.specs.Sessions.{OfOpen, Finishes};
     ghost use Rattle.fdb_core.specs.refinement.Views.{state_of};
 
@@ -89,7 +89,9 @@ impl Session {
         ensures answers { OfOpen (open_of self.old.state) result (λ transcript.
             let earlier = program transcript.ops in let done = operation_of read.entry is_snapshot in
             let reply = reply_on (copy (S.map snapshot.now) earlier) done in
-            Answers result (read_fault (S.key_fault snapshot.now) (S.range_fault snapshot.now) earlier done)
+            Answers result
+            (call_fault result (S.key_fault snapshot.now) (S.range_fault snapshot.now) (S.map snapshot.now) earlier
+            done)
             (λ given. (given ≡ answered_by reply)
             × (self.new ≡ at_state self.old (Open (with_op transcript done reply))))) }
         ensures err { OnErr result (self.new ≡ self.old) }

@@ -41,9 +41,9 @@ impl Sessions {
     ghost use Rattle.fdb_client.specs.TxnState.{with_op};
     ghost use Rattle.fdb_client.specs.Programs.{program, copy, reply_on};
     ghost use Rattle.fdb_client.specs.declared.program.Reply.TheVariants as answer;
-    ghost use Rattle.fdb_machine.specs.machine.ClientSteps.{answered_by, read_fault};
+    ghost use Rattle.fdb_machine.specs.machine.ClientSteps.{answered_by};
     ghost use Rattle.fdb_core.specs.refinement.client.Noting.{noted_as, note_fault};
-    ghost use Rattle.fdb_core.specs.refinement.client.Reading.{operation_of};
+    ghost use Rattle.fdb_core.specs.refinement.client.Reading.{operation_of, call_fault};
     ghost use Rattle.fdb_roles.specs.Sessions.{OfOpen, Finishes};
     ghost use Rattle.fdb_machine.specs.machine.GrvProxySteps.{has_no_number};
     ghost use Rattle.fdb_machine.specs.machine.Sessions.{Idle, Asking, Open, Waiting, session_of, open_at, with_state};
@@ -187,7 +187,9 @@ impl Sessions {
         ensures answers { OfOpen (open_at self.old session) result (λ transcript.
             let earlier = program transcript.ops in let done = operation_of read.entry is_snapshot in
             let reply = reply_on (copy (S.map snapshot.now) earlier) done in
-            Answers result (read_fault (S.key_fault snapshot.now) (S.range_fault snapshot.now) earlier done)
+            Answers result
+            (call_fault result (S.key_fault snapshot.now) (S.range_fault snapshot.now) (S.map snapshot.now) earlier
+            done)
             (λ given. (given ≡ answered_by reply)
             × (self.new ≡ with_state self.old session (Open (with_op transcript done reply))))) }
         ensures err { OnErr result (self.new ≡ self.old) }

@@ -15,6 +15,8 @@ use Rattle.fdb_machine.proofs.headline.AnswerExamplesLemmas.{early_decisions_are
 use Rattle.fdb_machine.proofs.headline.AnswerExamplesLemmas.{early_messages_are_no_answers}
 use Rattle.fdb_machine.proofs.headline.AnswerExamplesLemmas.{other_outcomes_are_no_answers, messages_are_due}
 use Rattle.fdb_machine.proofs.headline.ScriptExamplesLemmas.{worked_scripts_are_traces}
+use Rattle.fdb_machine.proofs.headline.UnreadableExamplesLemmas.{placeholders_are_no_answers}
+use Rattle.fdb_machine.proofs.headline.UnreadableExamplesLemmas.{unreadable_reads_are_refused}
 use Rattle.fdb_machine.proofs.headline.WindowExamplesLemmas.{windows_are_read, windows_hold_from_the_next_entry}
 use Rattle.fdb_machine.proofs.laws.worked_examples.Goals as goal
 
@@ -52,4 +54,6 @@ returns c = record {
   in_flight = failed_proxies_tell_nothing;
   windows = windows_hold_from_the_next_entry;
   horizons = windows_are_read;
+  unreadable = unreadable_reads_are_refused;
+  placeholders = placeholders_are_no_answers;
 }

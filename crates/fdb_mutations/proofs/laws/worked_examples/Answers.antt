@@ -38,6 +38,7 @@ returns-clause-left c = λ key. (
   refl,
   refl,
   refl,
+  refl,
 )
 
 pub returns-clause-sizes : goal.returns-clause-sizes
@@ -54,10 +55,12 @@ returns-clause-sizes c = (
   refl,
   refl,
   refl,
+  refl,
 )
 
 pub returns-clause-carried : goal.returns-clause-carried
 returns-clause-carried c = λ key operand. (
+  refl,
   refl,
   refl,
   refl,
@@ -123,12 +126,15 @@ returns-clause-clips c = (
   refl,
   refl,
   refl,
+  refl,
+  refl,
   (λ map. refl),
   (λ map. refl),
 )
 
 pub returns-clause-blindness : goal.returns-clause-blindness
 returns-clause-blindness c = λ key operand range. (
+  refl,
   refl,
   refl,
   refl,

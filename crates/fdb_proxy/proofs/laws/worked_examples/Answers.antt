@@ -56,4 +56,8 @@ returns-clause-spans c = (
   refl,
   refl,
   refl,
+  refl,
+  refl,
+  refl,
+  refl,
 )

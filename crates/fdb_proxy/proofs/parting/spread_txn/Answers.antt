@@ -11,7 +11,7 @@ returns-clause-owned c = record { reads = c.in_ok-reads.ensures.owned; writes = 
 pub returns-clause-spread : goal.returns-clause-spread
 returns-clause-spread c moves number agrees =
     spread-by_book c.args.owners.now moves c.args.version c.args.horizon number c.args.txn.now _ agrees
-    c.requires.kept c.requires.below c.read_version-read_version.ensures
+    c.requires.kept c.read_version-read_version.ensures
     (c.has_points.ensures ∙ ap has_points c.reads-3.ensures)
     (λ i x. c.in_ok-reads.ensures.held i x
     ∙ ap (λ (set : List Range). in_set set x && owned_between c.args.owners.now i x c.max-from.result c.args.version)

@@ -167,3 +167,33 @@ returns-clause-untaken c = (
   (λ is. ⊎_elim (λ so. cc (so.0)) (λ shown. cc (shown.0)) (is.1 refl).0),
   (λ is. let same : Some (opened 100) ≡ None = ap (λ (it : Session). it.current) (is.1 refl).1 in absurd cc),
 )
+
+pub returns-clause-unreadable : goal.returns-clause-unreadable
+returns-clause-unreadable c = (
+  refl,
+  (λ (same : true ≡ false). absurd (cc)),
+  (λ same. refl),
+  (λ told. let same : false ≡ true = told refl in absurd (cc)),
+  (λ same. absurd (cc)),
+  (λ same. absurd (cc)),
+  (λ same. inl refl),
+  (λ same. inr refl),
+  (λ told. ⊎_elim (λ wrong. absurd (cc)) (λ wrong. absurd (cc)) (told refl)),
+  (λ (same : false ≡ true). absurd (cc)),
+  (λ told. ⊎_elim (λ wrong. absurd (cc)) (λ wrong. absurd (cc)) (told refl)),
+  refl,
+  refl,
+  refl,
+)
+
+pub returns-clause-refusals : goal.returns-clause-refusals
+returns-clause-refusals c = (
+  refl,
+  (λ (same : Some refusal.AccessedUnreadable ≡ None). absurd (cc)),
+  inr refl,
+  inl refl,
+  inl refl,
+  (λ told. ⊎_elim (λ wrong. absurd (cc)) (λ wrong. absurd (cc)) told),
+  (λ told. ⊎_elim (λ wrong. absurd (cc)) (λ wrong. absurd (cc)) told),
+  refl,
+)

@@ -46,6 +46,9 @@ returns-clause-horizons c = (
   refl,
   refl,
   refl,
+  refl,
+  refl,
+  refl,
 )
 
 pub returns-clause-moves : goal.returns-clause-moves

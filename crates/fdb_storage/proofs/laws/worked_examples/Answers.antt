@@ -98,6 +98,9 @@ returns-clause-replays c = (
   refl,
   refl,
   refl,
+  refl,
+  refl,
+  refl,
 )
 
 below : (v : ℕ) (new : Shard) → new.version ≡ 200 → v ≤ 200 → v ≤ new.version

@@ -33,8 +33,25 @@ returns-clause-parts c = (
   refl,
 )
 
+pub returns-clause-stamped : goal.returns-clause-stamped
+returns-clause-stamped c = (
+  refl,
+  refl,
+  refl,
+  refl,
+  refl,
+  refl,
+  refl,
+  refl,
+)
+
 pub returns-clause-applies : goal.returns-clause-applies
 returns-clause-applies c = (
+  refl,
+  refl,
+  refl,
+  refl,
+  refl,
   refl,
   refl,
   refl,

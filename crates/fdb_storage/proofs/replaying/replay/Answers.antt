@@ -1,7 +1,5 @@
-use Rattle.std.proofs.Common.{◌≡◌, ◌∙◌, sym, ap, subst, ℕ, ◌+◌, ◌≤◌, List, [], ◌∷◌, ◌++◌, take, fold, None, arith}
+use Rattle.std.proofs.Common.{◌≡◌, ◌∙◌, sym, ap, subst, ℕ, ◌+◌, ◌≤◌, List, [], ◌∷◌, ◌++◌, take, fold}
 use Rattle.std.specs.FinMap.{get, empty}
-use Rattle.std.specs.Prelude.{nat_lt}
-use Rattle.std.proofs.lemmas.Bool.{cond-false, false_from_ne_true, ltb-true}
 use Rattle.std.proofs.lemmas.List.{take_all, take_more, append-nil, append_assoc}
 use Rattle.std.proofs.lemmas.List.Sums.{fold-append}
 use Rattle.fdb_mutations.specs.Maps.{Map}
@@ -10,7 +8,7 @@ use Rattle.fdb_txn.specs.declared.tag_msg.TagMsg.{TagMsg}
 use Rattle.fdb_storage.specs.CutMaps.{cut_with}
 use Rattle.fdb_storage.specs.Replays.{messages_of, covered, replay_fault}
 use Rattle.fdb_storage.proofs.CutLemmas.{get-cut}
-use Rattle.fdb_storage.proofs.FaultLemmas.{given}
+use Rattle.fdb_storage.proofs.FaultLemmas.{given, replay_fault-none}
 use Rattle.fdb_storage.proofs.replaying.replay.Goals as goal
 
 -- one peek more
@@ -45,8 +43,7 @@ returns c =
     let reached : c.args.version ≤ covered peeks =
     subst (λ (n : ℕ). c.args.version ≤ n) c.covered-through.ensures c.if-through-version.false in
     given c.loop-peek.map (replay_fault peeks c.args.version) _
-    (cond-false (nat_lt (covered peeks) c.args.version) _ None
-    (false_from_ne_true _ (λ short. absurd (omega (arith, ltb-true (covered peeks) c.args.version short, reached)))))
+    (replay_fault-none peeks c.args.version (sym c.any_has_stamped.ensures ∙ c.if-any_has_stamped.false) reached)
     (λ x. ap (λ (map : Map). get map x) (c.loop-peek.invariant
     ∙ ap (λ (some : List Peek). fold (cut_with c.args.range.now c.args.version) empty (messages_of some)) all)
     ∙ get-cut c.args.range.now c.args.version (messages_of peeks) x)

@@ -4,7 +4,8 @@ use Rattle.fdb_txn.proofs.rules.ExamplesLemmas.{former_owner_computes, there_and
 use Rattle.fdb_txn.proofs.rules.ExamplesLemmas.{equal_is_not_newer_computes, window_computes, old_reading_computes}
 use Rattle.fdb_txn.proofs.rules.ExamplesLemmas.{horizon_computes, horizons_compute, numbers_compute}
 use Rattle.fdb_txn.proofs.rules.ExamplesLemmas.{two_moves_computes, spans_computes, at_bounds_computes}
-use Rattle.fdb_txn.proofs.rules.ExamplesLemmas.{shard_messages_compute, entries_are_judged, books_are_judged}
+use Rattle.fdb_txn.proofs.rules.ExamplesLemmas.{shard_messages_compute, stamps_compute, entries_are_judged}
+use Rattle.fdb_txn.proofs.rules.ExamplesLemmas.{books_are_judged}
 use Rattle.fdb_txn.proofs.laws.worked_examples.Goals as goal
 
 pub returns : goal.returns
@@ -22,6 +23,7 @@ returns c = record {
   spans = spans_computes;
   at_bounds = at_bounds_computes;
   shard_messages = shard_messages_compute;
+  stamps = stamps_compute;
   entries = entries_are_judged;
   books = books_are_judged;
   numbers = numbers_compute;

@@ -25,10 +25,14 @@ learn-requires-clause-kept c =
     (subst (λ (judge : Judge). MayFollow judge.last judge.owners.floor (resolvers_of judge.owners) c.args.entry.now)
     (sym c.self.view_is) c.requires).rises
 
-pub judge_entry-requires-clause-below : goal.judge_entry-requires-clause-below
-judge_entry-requires-clause-below c =
-    (subst (λ (judge : Judge). MayFollow judge.last judge.owners.floor (resolvers_of judge.owners) c.args.entry.now)
-    (sym c.self.view_is) c.requires).below
+pub judge_entry-requires-clause-kept : goal.judge_entry-requires-clause-kept
+judge_entry-requires-clause-kept c =
+    let may = subst (λ (judge : Judge).
+    MayFollow judge.last judge.owners.floor (resolvers_of judge.owners) c.args.entry.now) (sym c.self.view_is)
+    c.requires in
+    let below = may.below in
+    let floor = c.in_ok-learn.ensures.floor in
+    omega (arith, below, floor)
 
 pub judge_entry-requires-clause-later : goal.judge_entry-requires-clause-later
 judge_entry-requires-clause-later c =
@@ -38,11 +42,6 @@ judge_entry-requires-clause-later c =
     let linked = may.linked in
     let later = may.later in
     omega (arith, linked, later)
-
-pub judge_entry-requires-clause-reads : goal.judge_entry-requires-clause-reads
-judge_entry-requires-clause-reads c =
-    (subst (λ (judge : Judge). MayFollow judge.last judge.owners.floor (resolvers_of judge.owners) c.args.entry.now)
-    (sym c.self.view_is) c.requires).reads
 
 pub returns-in_err-outcomes-clause-outcomes : goal.returns-in_err-outcomes-clause-outcomes
 returns-in_err-outcomes-clause-outcomes c splits before now entries =

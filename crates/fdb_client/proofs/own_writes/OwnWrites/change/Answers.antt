@@ -4,7 +4,6 @@ use Rattle.std.specs.Cmp.Lexicographic.{slice_cmp}
 use Rattle.std.specs.BTreeMap.{is_at}
 use Rattle.fdb_keys.specs.Points.{Point, point_eq}
 use Rattle.fdb_keys.specs.Ranges.{in_set}
-use Rattle.fdb_mutations.specs.Mutations.{new_value}
 use Rattle.fdb_client.specs.declared.left.Left.{Left}
 use Rattle.fdb_client.specs.declared.left.Left.TheVariants.{Value, Changes}
 use Rattle.fdb_client.specs.LeftAt.{left_at}
@@ -19,12 +18,11 @@ returns-then-is_blind-clause-answers c =
     let own = c.args.self.now in
     let key = c.args.key.now in
     let mutation = c.args.mutation.now in
-    let value = c.in_ok-value.value in
-    let made : value ≡ new_value mutation None = search rules in
+    let made = c.in_ok-made.made in
     answers_also c.put.result _ _ (λ put x.
-    changed-at (left_at own) key x (left_at c.put.new.self x) (Value value)
+    changed-at (left_at own) key x (left_at c.put.new.self x) made
     (λ (before : Left). left_after before mutation) (put x)
-    (ap Value made ∙ blind-after (left_at own key) mutation (search rules))) c.put.ensures.answers
+    (c.in_ok-made.ensures ∙ blind-after (left_at own key) mutation (search rules))) c.put.ensures.answers
 
 pub returns-in_err-change-clause-err : goal.returns-in_err-change-clause-err
 returns-in_err-change-clause-err c =

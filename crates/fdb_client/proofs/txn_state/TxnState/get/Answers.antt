@@ -1,6 +1,7 @@
-use Rattle.std.proofs.Common.{◌≡◌, rules, Err, ℕ, Bool, List, Option, None, if◌then◌else◌}
+use Rattle.std.proofs.Common.{◌≡◌, rules, Err, ℕ, Bool, List, Option}
 use Rattle.std.specs.FinMap.{get}
-use Rattle.fdb_client.specs.Programs.{program, copy, decided}
+use Rattle.fdb_client.specs.Programs.{program, copy}
+use Rattle.fdb_client.specs.Unreadable.{get_fault}
 use Rattle.fdb_client.proofs.FaultLemmas.{given, part_given, refused, out_of_memory}
 use Rattle.fdb_client.proofs.txn_state.TxnState.get.Goals as goal
 
@@ -20,7 +21,7 @@ returns-clause-answers g c =
     let key = c.args.key.now in
     let ops = program c.args.self.now.transcript.ops in
     let value = get (copy (g.S.Snapshot.map c.args.snapshot.now) ops) key in
-    let fault = if decided ops key then None else g.S.Snapshot.key_fault c.args.snapshot.now key in
+    let fault = get_fault ops key (g.S.Snapshot.key_fault c.args.snapshot.now key) in
     part_given (c.in_ok-value.value, c.in_ok-value.is_decided) c.in_ok-value.value fault
     (λ (read : Option (List ℕ) × Bool). read.0 ≡ value) (λ (read : Option (List ℕ)). read ≡ value)
     (λ read. read) c.in_ok-value.ensures.value

@@ -6,4 +6,4 @@ pub returns-clause-kept : goal.returns-clause-kept
 returns-clause-kept c =
     let old = c.args.self.now in
     rw c.in_ok-push.ensures.ok (are-noted old.transcript.ops c.args.done old.own old.reads old.writes old.reads
-    old.mutates c.requires.kept c.requires.unwritten (sym c.requires.unread))
+    old.mutates old.stamps c.requires.kept c.requires.unwritten (sym c.requires.unread))

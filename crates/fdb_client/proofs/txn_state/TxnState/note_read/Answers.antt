@@ -6,5 +6,5 @@ pub returns-clause-kept : goal.returns-clause-kept
 returns-clause-kept c =
     let old = c.args.self.now in
     rw c.in_ok-push.ensures.ok (are-noted old.transcript.ops c.args.done old.own old.reads old.writes
-    c.add.new.self old.mutates c.requires.kept c.requires.unwritten
+    c.add.new.self old.mutates old.stamps c.requires.kept c.requires.unwritten
     (c.in_default.ensures.answers ∙ sym c.requires.read))

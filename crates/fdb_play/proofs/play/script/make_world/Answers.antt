@@ -1,4 +1,4 @@
-use Rattle.std.proofs.Common.{◌≡◌, Some}
+use Rattle.std.proofs.Common.{◌≡◌}
 use Rattle.fdb_play.proofs.lemmas.Script.{refused_world}
 use Rattle.fdb_proxy.specs.Configs.{config_fault}
 use Rattle.fdb_machine.specs.machine.Worlds.{first_state}

@@ -1,6 +1,5 @@
 use Rattle.std.proofs.Common.{◌≡◌, ◌∙◌, ap, sym, ℕ, Bool, List, Option, Some, None, Result, Ok, Err, IfOk}
 use Rattle.std.specs.Prelude.{⊤, IfSome}
-use Rattle.fdb_keys.specs.Answers.{Answers}
 use Rattle.fdb_keys.specs.Points.{Point}
 use Rattle.fdb_keys.specs.Ranges.{Range}
 use Rattle.fdb_keys.specs.declared.refusal.Refusal.{Refusal}
@@ -17,15 +16,15 @@ use Rattle.fdb_roles.specs.Sessions.{OfOpen}
 use Rattle.fdb_sections.specs.LentShards.{LentShards, lent_shards, lending_fault}
 use Rattle.fdb_sections.specs.Sessions.{Session, with_current}
 use Rattle.fdb_sections.specs.ShardViews.{run_of}
-use Rattle.fdb_sections.proofs.ReadingLemmas.{lent-faults, read-refused}
+use Rattle.fdb_sections.proofs.ReadingLemmas.{lent-faults, range-refused}
 use Rattle.fdb_sections.proofs.session_state.SessionState.get_range_at.Goals as goal
 
 -- what was read of the open transaction's own writes over a map, at its read version and the session's front
 has-read : (config : Config) (current : Option Transcript) (old new : Session) (own : List Entry)
-    (shared : ℕ × List Entry) (result : Result (List (Point × List ℕ)) Refusal) (fault : Option Refusal)
+    (shared : ℕ × List Entry) (result : Result (List (Point × List ℕ)) Refusal)
     (range : Range) (limit : ℕ) (reverse is_snapshot : Bool)
     → OfOpen {T = ℕ × List Entry} current (Ok shared) (λ transcript. shared ≡ (transcript.read_version, own))
-    → OfOpen current result (λ transcript. Answers result fault (λ pairs.
+    → IfOk result (λ pairs. IfSome current (λ transcript.
     (pairs ≡ given_of (copy (run_of config shared.0 shared.1) (program transcript.ops)) range limit reverse)
     × (new ≡ with_current old (Some (with_op transcript (operation.Range range limit reverse is_snapshot)
     (answer.Pairs pairs))))))
@@ -34,25 +33,23 @@ has-read : (config : Config) (current : Option Transcript) (old new : Session) (
     (operation.Range range limit reverse is_snapshot))
     × (new ≡ with_current old (Some (with_op transcript (operation.Range range limit reverse is_snapshot)
     (answer.Pairs pairs))))))
-has-read config current old new own shared (Err why) fault range limit reverse is_snapshot same answers = tt
-has-read config None old new own shared (Ok pairs) fault range limit reverse is_snapshot same answers = tt
-has-read config (Some transcript) old new own shared (Ok pairs) (Some fault) range limit reverse is_snapshot same
-    answers = absurd answers
-has-read config (Some transcript) old new own shared (Ok pairs) None range limit reverse is_snapshot same answers = (
-  ap (λ (given : List (Point × List ℕ)). answer.Pairs given) (answers.0
+has-read config current old new own shared (Err why) range limit reverse is_snapshot same given = tt
+has-read config None old new own shared (Ok pairs) range limit reverse is_snapshot same given = tt
+has-read config (Some transcript) old new own shared (Ok pairs) range limit reverse is_snapshot same given = (
+  ap (λ (it : List (Point × List ℕ)). answer.Pairs it) (given.0
       ∙ ap (λ (it : ℕ × List Entry). given_of (copy (run_of config it.0 it.1) (program transcript.ops)) range limit
       reverse) same),
-  answers.1,
+  given.1,
 )
 
 pub returns-clause-answered : goal.returns-clause-answered
 returns-clause-answered g c =
     let shared : ℕ × List Entry = (c.in_ok-version.version, c.in_ok-version.front) in
     has-read g.B.ClusterName.config c.args.self.now.current c.args.self.now c.get_range.new.self c.args.self.now.front
-    shared c.get_range.result _ c.args.range.now c.args.limit c.args.reverse c.args.is_snapshot
+    shared c.get_range.result c.args.range.now c.args.limit c.args.reverse c.args.is_snapshot
     c.in_ok-version.ensures.answers
     (rw (c.in_ok-lent.ensures.value, c.new-reader.ensures.version, c.new-reader.ensures.front)
-    at c.get_range.ensures.answers)
+    at c.get_range.ensures.given)
 
 pub returns-clause-fault : goal.returns-clause-fault
 returns-clause-fault g c =
@@ -64,7 +61,11 @@ returns-clause-fault g c =
     ap (λ (version : ℕ). lending_fault version range shards) (sym c.new-reader.ensures.version)
     ∙ (given-fault (lending_fault c.new-reader.result.version range shards) lent (λ _. ⊤)
     c.in_ok-lent.ensures.answers).0 in
-    read-refused current c.get_range.result _ _ _
-    (lent-faults current (c.in_ok-version.version, c.in_ok-version.front) c.args.self.now.front lent range shards none
-    (ap (λ (it : LentShards). it.range) c.in_ok-lent.ensures.value) c.in_ok-version.ensures.answers)
-    c.get_range.ensures.answers
+    range-refused current c.get_range.result _ _ _ _ (λ transcript given. ⊤)
+    (lent-faults g.B.ClusterName.config current (c.in_ok-version.version, c.in_ok-version.front) c.args.self.now.front
+    lent range shards c.args.limit c.args.reverse none
+    (ap (λ (it : LentShards). it.range) c.in_ok-lent.ensures.value)
+    (ap (λ (it : LentShards). it.version) c.in_ok-lent.ensures.value ∙ c.new-reader.ensures.version)
+    (ap (λ (it : LentShards). it.front) c.in_ok-lent.ensures.value ∙ c.new-reader.ensures.front)
+    c.in_ok-version.ensures.answers)
+    c.get_range.ensures.fault

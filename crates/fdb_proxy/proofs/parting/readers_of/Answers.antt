@@ -1,0 +1,12 @@
+use Rattle.std.proofs.Common.{◌∙◌, ap, ◌&&◌, ◌==◌, List}
+use Rattle.std.specs.List.{list_any}
+use Rattle.fdb_keys.specs.Ranges.{in_set}
+use Rattle.fdb_owners.specs.declared.parts.Owned.{Owned}
+use Rattle.fdb_proxy.proofs.SpreadLemmas.{none-asked}
+use Rattle.fdb_proxy.proofs.parting.readers_of.Goals as goal
+
+pub returns-then-from-version-clause-held : goal.returns-then-from-version-clause-held
+returns-then-from-version-clause-held c i x =
+    ap (λ (parts : List Owned). list_any (λ (part : Owned). (part.resolver == i) && in_set part.ranges x) parts)
+    c.new.ensures
+    ∙ none-asked c.args.owners.now c.args.set.now i x c.args.from c.args.version c.if-from-version.true
