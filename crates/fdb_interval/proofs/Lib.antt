@@ -3,6 +3,7 @@ mod AssignLemmas
 mod BreaksLemmas
 mod HeadsLemmas
 mod JoinedLemmas
+mod NewerPieceLemmas
 mod NewerWalkLemmas
 mod PartsLemmas
 mod PiecesLemmas

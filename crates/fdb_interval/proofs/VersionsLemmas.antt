@@ -101,12 +101,12 @@ above-newer floor version newer = cond-true (nat_lt floor version) version 0 (lt
 pub above-older : (floor version : ℕ) → version ≤ floor → above floor version ≡ 0
 above-older floor version older = cond-false (nat_lt floor version) version 0 (le-ltb _ _ older)
 
-newer-above : (floor version held : ℕ) → max version floor < held → version < above floor held
+pub newer-above : (floor version held : ℕ) → max version floor < held → version < above floor held
 newer-above floor version held newer =
     let is = above-newer floor held (omega (arith, newer)) in
     omega (arith, newer, is)
 
-above-is_newer : (floor version held : ℕ) → version < above floor held → max version floor < held
+pub above-is_newer : (floor version held : ℕ) → version < above floor held → max version floor < held
 above-is_newer floor version held newer = ⊎_elim
     (λ higher. let is = above-newer floor held higher in omega (arith, newer, is, higher))
     (λ lower. let is = above-older floor held lower in absurd (omega (arith, newer, is)))

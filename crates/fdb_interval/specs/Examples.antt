@@ -1,6 +1,8 @@
 -- Versions and pieces, computed.
-use Rattle.std.specs.Prelude.{◌≡◌, ℕ, [], ◌∷◌}
-use Rattle.fdb_interval.specs.Breakpoints.{Breakpoints}
+use Rattle.std.specs.Prelude.{◌≡◌, ℕ, List, [], ◌∷◌}
+use Rattle.fdb_keys.specs.Ranges.{Range}
+use Rattle.fdb_interval.specs.Breakpoints.{Breakpoints, value_from, breaks_inside}
+use Rattle.fdb_interval.specs.Newer.{newer_pieces}
 use Rattle.fdb_interval.specs.Pieces.{Piece, AreMaximal}
 use Rattle.fdb_interval.specs.Versions.{version_at, piece_count}
 
@@ -61,3 +63,25 @@ WorkedPieces =
     × (AreMaximal (letters 97 97 100 ∷ []) → ⊥)
     × (AreMaximal (letters 98 99 200 ∷ letters 97 98 100 ∷ []) → ⊥)
     × (AreMaximal (letters 97 99 200 ∷ letters 98 100 100 ∷ []) → ⊥)
+
+-- the keys from one letter up to another
+abbrev pub keys_from : ℕ → ℕ → Range
+keys_from begin end = (letters begin end 0).0
+
+-- the parts of a range with versions above a bar, by breakpoints
+abbrev pub newer_parts : Breakpoints → Range → ℕ → List Range
+newer_parts last range bar =
+    newer_pieces bar (value_from 0 last.breaks range.begin) range.begin (breaks_inside range last.breaks) range.end
+
+-- Only versions above the bar count; one part goes on where its version changes to another one above the bar, a gap
+-- parts two, and each begins and ends within the range.
+abbrev pub WorkedNewer : Type 0
+WorkedNewer =
+    (newer_parts (two_marks 0) (keys_from 98 102) 99 ≡ keys_from 98 101 ∷ [])
+    × (newer_parts (two_marks 0) (keys_from 98 102) 100 ≡ keys_from 99 101 ∷ [])
+    × (newer_parts (two_marks 0) (keys_from 98 102) 200 ≡ [])
+    × (newer_parts (two_marks 0) (keys_from 97 99) 99 ≡ keys_from 98 99 ∷ [])
+    × (newer_parts (two_marks 0) (keys_from 100 102) 100 ≡ keys_from 100 101 ∷ [])
+    × (newer_parts (two_marks 0) (keys_from 100 101) 100 ≡ keys_from 100 101 ∷ [])
+    × (newer_parts (two_marks 0) (keys_from 101 102) 0 ≡ [])
+    × (newer_parts (one_gap 0) (keys_from 97 102) 99 ≡ keys_from 97 98 ∷ keys_from 99 100 ∷ [])

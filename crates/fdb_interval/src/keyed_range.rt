@@ -24,6 +24,8 @@ impl KeyedRange {
     pub(crate) fn new(range: &KeyRange) -> Result<Self, AllocError>
         ensures { IfOk result (λ keyed. keyed ≡ range.now) }
     {
+        // It tells that the begin is a legal bound.
+        let _begin = range.begin();
         let begin = PointKey::new(range.begin_text())?;
         let end = PointKey::new(range.end_text())?;
         Ok(KeyedRange { begin, end })

@@ -4,10 +4,10 @@ ghost use Rattle.fdb_keys.specs.Ranges.{in_range};
 ghost use Rattle.fdb_interval.specs.Breakpoints.{value_from, last_value, AreJoined};
 
 use crate::breakpoints::{assign, count_above};
-use crate::newer::is_any_newer;
+use crate::newer::{is_any_newer, list_newer};
 use crate::point_key::PointKey;
 use crate::sweeping::sweep;
-use fdb_keys::{KeyRange, Refusal};
+use fdb_keys::{KeyRange, RangeSet, Refusal};
 use std::alloc::{AllocError, Global};
 use std::collections::BTreeMap;
 use std::marker::Model;
@@ -45,10 +45,10 @@ impl Model for LastCommit {
 
 impl LastCommit {
     ghost use Rattle.std.specs.Prelude.{◌≡◌, ◌<◌, ◌≤◌, ◌↔◌, IsTrue, true, None, OnErr, List, length};
-    ghost use Rattle.std.specs.Prelude.{if◌then◌else◌};
+    ghost use Rattle.std.specs.Prelude.{◌&&◌, nat_lt, if◌then◌else◌};
     ghost use Rattle.fdb_keys.specs.Answers.{Answers};
     ghost use Rattle.fdb_keys.specs.Points.{Point, point_lt};
-    ghost use Rattle.fdb_keys.specs.Ranges.{in_range};
+    ghost use Rattle.fdb_keys.specs.Ranges.{in_range, in_set};
     ghost use Rattle.fdb_interval.specs.Pieces.{Piece, ArePieces};
     ghost use Rattle.fdb_interval.specs.Versions.{version_at, forgetting, piece_count};
 
@@ -75,6 +75,22 @@ impl LastCommit {
             return false;
         }
         is_any_newer(&self.breaks, range, version.max(self.floor))
+    }
+
+    /// The points of the range that have a version above `version`; none where the range is empty. It takes O(log n)
+    /// for the n pieces, O(1) for each breakpoint inside the range, and O(k log k) comparisons of bounds for the k
+    /// ranges that are found. Refused only as `NoMemory`.
+    pub fn newer_in(&self, range: &KeyRange, version: u64) -> Result<RangeSet, Refusal>
+        ensures { Answers result None (λ set. (x : Point)
+            → in_set set x ≡ (in_range range.now x && nat_lt version (version_at self.now x))) }
+    {
+        let mut newer = RangeSet::new(self.alloc);
+        if range.is_empty() {
+            return Ok(newer);
+        }
+        let bar = version.max(self.floor);
+        newer.add_all(list_newer(self.alloc, &self.breaks, range, bar)?)?;
+        Ok(newer)
     }
 
     /// Marks each point of the range with `version`, which no point's version may exceed. Other points keep

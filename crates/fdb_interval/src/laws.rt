@@ -1,5 +1,5 @@
 //! What the definitions say of examples.
-ghost use Rattle.fdb_interval.specs.Examples.{WorkedPieces, WorkedVersions};
+ghost use Rattle.fdb_interval.specs.Examples.{WorkedNewer, WorkedPieces, WorkedVersions};
 
 /// Which version is at a point, and how many pieces there are, by examples.
 pub fn worked_versions()
@@ -9,4 +9,9 @@ pub fn worked_versions()
 /// Which ranges with versions are pieces, and which aren't, by examples.
 pub fn worked_pieces()
     ensures { WorkedPieces }
+{}
+
+/// Which parts of a range have newer versions, by examples.
+pub fn worked_newer()
+    ensures { WorkedNewer }
 {}

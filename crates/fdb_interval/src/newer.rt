@@ -1,14 +1,18 @@
-// Whether a range has a newer version.
-ghost use Rattle.std.specs.Prelude.{◌≡◌, ◌||◌, nat_lt, IsTrue};
+// Whether a range has a newer version, and where.
+ghost use Rattle.std.specs.Prelude.{◌≡◌, ◌++◌, ◌||◌, [], nat_lt, IfOk, OnOk, IsTrue, if◌then◌else◌};
 ghost use Rattle.std.specs.List.{list_any};
 ghost use Rattle.fdb_keys.specs.Points.{point_lt};
+ghost use Rattle.fdb_keys.specs.Removal.{range_between};
 ghost use Rattle.fdb_interval.specs.Breakpoints.{value_from, breaks_inside, AreRising};
+ghost use Rattle.fdb_interval.specs.Newer.{newer_pieces};
 
-use crate::breakpoints::is_newer_by_keys;
+use crate::breakpoints::{is_newer_by_keys, version_by};
 use crate::keyed_range::KeyedRange;
 use crate::point_key::PointKey;
-use fdb_keys::{KeyRange, is_before};
+use fdb_keys::{KeyRange, is_before, push_between};
+use std::alloc::{AllocError, Global};
 use std::collections::BTreeMap;
+use std::ops::Bound;
 
 // Whether some point of the range, which has one, has a version above this one.
 pub(crate) fn is_any_newer(breaks: &BTreeMap<PointKey, u64>, range: &KeyRange, version: u64) -> bool
@@ -39,4 +43,65 @@ fn is_newer_by_walk(breaks: &BTreeMap<PointKey, u64>, range: &KeyRange, version:
         }
     }
     version < at_begin || is_inside
+}
+
+// The parts of the range, which has a point, that have versions above this one, in order.
+pub(crate) fn list_newer(
+    alloc: Global,
+    breaks: &BTreeMap<PointKey, u64>,
+    range: &KeyRange,
+    version: u64,
+) -> Result<Vec<KeyRange>, AllocError>
+    requires { IsTrue (point_lt range.now.begin range.now.end) }
+    ensures value { IfOk result (λ pieces. pieces.items ≡ newer_pieces version
+        (value_from 0 breaks.now.entries range.now.begin) range.now.begin
+        (breaks_inside range.now breaks.now.entries) range.now.end) }
+    ensures rising { IfOk result (λ _. AreRising breaks.now.entries) }
+{
+    let keyed = KeyedRange::new(range)?;
+    list_newer_by_keys(alloc, breaks, &keyed, version)
+}
+
+// The same, by the keys of the bounds. Where a breakpoint parts two newer versions, one part goes on.
+fn list_newer_by_keys(
+    alloc: Global,
+    breaks: &BTreeMap<PointKey, u64>,
+    range: &KeyedRange,
+    version: u64,
+) -> Result<Vec<KeyRange>, AllocError>
+    requires { IsTrue (point_lt range.now.begin range.now.end) }
+    ensures value { IfOk result (λ pieces. pieces.items ≡ newer_pieces version
+        (value_from 0 breaks.now.entries range.now.begin) range.now.begin
+        (breaks_inside range.now breaks.now.entries) range.now.end) }
+    ensures rising { IfOk result (λ _. AreRising breaks.now.entries) }
+{
+    let mut pieces = Vec::new(alloc);
+    let mut here = range.begin();
+    let mut held = version_by(breaks, here);
+    let bounds = (Bound::Excluded(range.begin()), Bound::Excluded(range.end()));
+    for (point, next) in breaks.range(bounds) {
+        if held <= version || *next <= version {
+            push_if(version < held, here, point, &mut pieces)?;
+            here = point;
+            held = *next;
+        }
+    }
+    push_if(version < held, here, range.end(), &mut pieces)?;
+    Ok(pieces)
+}
+
+// Adds the points from one up to but not including another to the list, as a range, if they are newer.
+fn push_if(
+    is_newer: bool,
+    begin: &PointKey,
+    end: &PointKey,
+    pieces: &mut Vec<KeyRange>,
+) -> Result<(), AllocError>
+    ensures { OnOk result (pieces.new.items
+        ≡ pieces.old.items ++ (if is_newer then range_between begin.now end.now else [])) }
+{
+    if is_newer {
+        push_between(begin.text(), end.text(), pieces)?;
+    }
+    Ok(())
 }

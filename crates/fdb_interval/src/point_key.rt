@@ -1,9 +1,10 @@
 // A point as a key of a map.
-ghost use Rattle.std.specs.Prelude.{◌≡◌, [], IfOk, Some, nat_eq, refl, get_or};
+ghost use Rattle.std.specs.Prelude.{◌≡◌, [], IfOk, IsTrue, Some, nat_eq, refl, get_or};
 ghost use Rattle.std.specs.Ordering.{nat_cmp};
 ghost use Rattle.std.specs.Cmp.Lexicographic.{pointwise, slice_cmp, nat_list_eq_equiv, nat_list_cmp_total};
 ghost use Rattle.std.specs.Cmp.Lexicographic.{texts_ties, texts_po};
 ghost use Rattle.std.specs.Cmp.{partial_equiv_from_equiv};
+ghost use Rattle.fdb_keys.specs.Texts.{is_bound};
 ghost use Rattle.fdb_interval.specs.Heads.{head_by, AreBytes};
 
 use bytes::Bytes;
@@ -16,7 +17,7 @@ const HEAD: usize = 8;
 
 // The text of a point beside its head, the number that its first bytes make. Keys that differ in their heads are
 // compared by these, so that a map seldom reads their texts, which lie elsewhere; others are compared by their texts as
-// well.
+// well. The text is a legal bound, so that two points are the bounds of a range.
 #[derive(Drop)]
 pub(crate) struct PointKey {
     head: u64,
@@ -24,18 +25,20 @@ pub(crate) struct PointKey {
 }
 
 impl Model for PointKey {
-    ghost use Rattle.std.specs.Prelude.{ℕ, List};
+    ghost use Rattle.std.specs.Prelude.{ℕ, List, IsTrue};
+    ghost use Rattle.fdb_keys.specs.Texts.{is_bound};
     ghost use Rattle.fdb_interval.specs.Heads.{IsHeaded};
 
     ghost Value = { List ℕ };
 
     ghost view = { λ key. key.text };
 
-    ghost invariant = { λ key. IsHeaded key.head key.text };
+    ghost invariant = { λ key. IsHeaded key.head key.text × IsTrue (is_bound key.text) };
 }
 
 impl PointKey {
     // The first of all points.
+    #[tactic(auto, unfolding(fdb_keys::specs::Points::point_lt))]
     pub(crate) fn first() -> Self
         ensures { result ≡ [] }
     {
@@ -46,6 +49,7 @@ impl PointKey {
     }
 
     pub(crate) fn new(text: &Bytes) -> Result<Self, AllocError>
+        requires { IsTrue (is_bound text.now) }
         ensures { IfOk result (λ key. key ≡ text.now) }
     {
         let head = head_of(text.as_slice());
@@ -57,6 +61,14 @@ impl PointKey {
         ensures { result.now ≡ self.now }
     {
         self.text.as_slice()
+    }
+
+    // The text, of which a clone copies no byte.
+    pub(crate) fn text(&self) -> &Bytes
+        ensures value { result.now ≡ self.now }
+        ensures legal { IsTrue (is_bound self.now) }
+    {
+        &self.text
     }
 }
 

@@ -45,7 +45,7 @@ not_in_rest x range ranges apart until =
     all_sooner (next ∷ rest) after = (le_lt_chain x range.end next.begin until after.0, all_sooner rest after.1)
 
 -- the begin of the first range lies in it
-begin_inside : (range : Range) (ranges : List Range) → is_apart (range ∷ ranges) ≡ true
+pub begin_inside : (range : Range) (ranges : List Range) → is_apart (range ∷ ranges) ≡ true
     → in_set (range ∷ ranges) range.begin ≡ true
 begin_inside range ranges apart =
     or_left _ _ (in_range_from range range.begin (lt-itself range.begin) (apart_parts range ranges apart).0)

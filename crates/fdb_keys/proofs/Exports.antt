@@ -14,6 +14,7 @@ pub use Rattle.fdb_keys.proofs.PointOrder.{lt_le_chain, lt_one_way, point_order}
 pub use Rattle.fdb_keys.proofs.RangeMapLemmas.{not_past}
 pub use Rattle.fdb_keys.proofs.RangesLemmas.{HaveCommonPoint, common_from_meet, in_range_from, in_range_parts}
 pub use Rattle.fdb_keys.proofs.RangesLemmas.{meet_from_common}
+pub use Rattle.fdb_keys.proofs.RemovalLemmas.{in_between}
 pub use Rattle.fdb_keys.proofs.SingleLemmas.{below_next, in_range-single, next_after}
 pub use Rattle.fdb_keys.proofs.TextsLemmas.{before_ff-key, is_bound-key}
 pub use Rattle.fdb_keys.proofs.WithinLemmas.{within-points}

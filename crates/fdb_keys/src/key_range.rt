@@ -309,8 +309,10 @@ fn text_after(alloc: Global, key: &Key) -> Result<Bytes, AllocError>
     Ok(Bytes::from_vec(text)?)
 }
 
-// Adds the points from the begin up to but not including the end to the list, as a range, if there are any.
-pub(crate) fn push_between(
+/// Adds the points from `begin` up to but not including `end`, which are legal bounds, to the list, as a range, and
+/// nothing where the end doesn't come after the begin. The range shares both texts, so no byte is copied. It takes O(1)
+/// time beside comparing the two, and the list's growth. Refused only where memory runs out.
+pub fn push_between(
     begin: &Bytes,
     end: &Bytes,
     ranges: &mut Vec<KeyRange>,

@@ -20,7 +20,7 @@ mod tree_range_set;
 
 pub use items::Items;
 pub use key::{KEY_LIMIT, Key};
-pub use key_range::{BOUND_LIMIT, KeyRange};
+pub use key_range::{BOUND_LIMIT, KeyRange, push_between};
 pub use order::is_before;
 pub use range_set::RangeSet;
 pub use refusal::{Refusal, Refused};

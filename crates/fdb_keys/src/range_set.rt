@@ -31,7 +31,7 @@ impl Model for RangeSet {
 }
 
 impl RangeSet {
-    ghost use Rattle.std.specs.Prelude.{◌≡◌, ◌==◌, ◌||◌, ◌&&◌, not, [], length, IsTrue, None, OnOk, OnErr};
+    ghost use Rattle.std.specs.Prelude.{◌≡◌, ◌↔◌, ◌==◌, ◌||◌, ◌&&◌, not, true, [], length, IsTrue, None, OnOk, OnErr};
     ghost use Rattle.std.specs.Slice.Iter.{iter_rest};
     ghost use Rattle.fdb_keys.specs.Answers.{Answers};
     ghost use Rattle.fdb_keys.specs.Insertion.{with_range, with_ranges};
@@ -68,6 +68,13 @@ impl RangeSet {
         ensures { result ≡ (length self.now == 0) }
     {
         self.ranges.as_slice().is_empty()
+    }
+
+    /// Whether the set has a point. It takes no memory, and O(1) time.
+    pub fn has_points(&self) -> bool
+        ensures { IsTrue result ↔ ((x : Point) × (in_set self.now x ≡ true)) }
+    {
+        !self.ranges.as_slice().is_empty()
     }
 
     /// From now on copies share the ranges. Where memory runs out they go on being copies of each range; so it is never
@@ -107,6 +114,23 @@ impl RangeSet {
         let joined = join_all(self.ranges.allocator(), self.ranges.as_slice(), ranges)?;
         self.ranges = SharedRanges::from_items(Items::from_vec(joined));
         Ok(())
+    }
+
+    /// Adds the keys of the other set. Where this one is empty, it is as a copy of the other one: that takes O(1) time
+    /// where the other one is shared. Else it takes O(n log n) comparisons of bounds for n ranges, those of both sets
+    /// together. Refused only as `NoMemory`, and then nothing changes.
+    pub fn add_set(&mut self, other: &RangeSet) -> Result<(), Refusal>
+        ensures answers { Answers result None
+            (λ _. (x : Point) → in_set self.new x ≡ (in_set other.now x || in_set self.old x)) }
+        ensures list { OnOk result (self.new ≡ with_ranges other.now self.old) }
+        ensures err { OnErr result (self.new ≡ self.old) }
+    {
+        if self.is_empty() {
+            *self = other.clone()?;
+            return Ok(());
+        }
+        let added = copies(self.ranges.allocator(), other.ranges.as_slice())?;
+        self.add_all(added.into_vec())
     }
 
     /// Takes out the keys of the range. Refused only as `NoMemory`, and then nothing changes.

@@ -6,7 +6,7 @@ ghost use Rattle.fdb_interval.specs.Versions.{version_at};
 use crate::asserting::same;
 use fdb_interval::LastCommit;
 use fdb_keys::{KeyRange, Refusal};
-use fdb_making::{both, made_of};
+use fdb_making::{both, made_of, set_of};
 use std::alloc::Global;
 
 type Text = &'static [u8];
@@ -78,6 +78,65 @@ fn first_wrongs(alloc: Global) -> Result<[Option<usize>; 2], Refusal> {
     let of_marked = first_wrong(&last, alloc, MARKED.as_slice());
     last.expire(100);
     Ok([of_marked, first_wrong(&last, alloc, EXPIRED.as_slice())])
+}
+
+// The keys from a to b and those from d to e are marked.
+fn marks_with_a_gap(alloc: Global) -> Result<LastCommit, Refusal> {
+    let (first, second) = both(
+        KeyRange::new(alloc, b"a", b"b"),
+        KeyRange::new(alloc, b"d", b"e"),
+    )?;
+    marked(alloc, &first, &second)
+}
+
+// The keys from the begin up to the end, a version, and the ranges of those that have a mark above it.
+type NewerRow = (Text, Text, u64, &'static [(Text, Text)]);
+
+// After the two marks.
+static NEWER: [NewerRow; 5] = [
+    (b"a", b"f", 99, &[(b"b", b"e")]),
+    (b"b", b"f", 100, &[(b"c", b"e")]),
+    (b"a", b"c", 99, &[(b"b", b"c")]),
+    (b"d", b"f", 0, &[(b"d", b"e")]),
+    (b"c", b"c", 0, &[]),
+];
+
+// After the marks with a gap.
+static NEWER_WITH_A_GAP: [NewerRow; 2] = [
+    (b"a", b"f", 99, &[(b"a", b"b"), (b"d", b"e")]),
+    (b"b", b"d", 0, &[]),
+];
+
+// Whether just the keys of the ranges have a mark above the version.
+fn are_newer(last: &LastCommit, alloc: Global, row: &NewerRow) -> Result<bool, Refusal> {
+    let (begin, end, version, wanted) = row;
+    let range = KeyRange::new(alloc, begin, end)?;
+    let (newer, wanted) = both(last.newer_in(&range, *version), set_of(alloc, wanted))?;
+    Ok(newer == wanted)
+}
+
+// The place of the first row that is answered otherwise.
+fn first_other(last: &LastCommit, alloc: Global, rows: &[NewerRow]) -> Option<usize> {
+    for (place, row) in rows.iter().enumerate() {
+        if are_newer(last, alloc, row) != Ok(true) {
+            return Some(place);
+        }
+    }
+    None
+}
+
+#[test]
+fn newer_keys_are_those_of_marks_within_the_range(rt: HostRuntime) {
+    let alloc = rt.alloc();
+    let touching = made_of(
+        two_marks(alloc),
+        |last| Ok(first_other(last, alloc, NEWER.as_slice())),
+    );
+    let apart = made_of(
+        marks_with_a_gap(alloc),
+        |last| Ok(first_other(last, alloc, NEWER_WITH_A_GAP.as_slice())),
+    );
+    same(&rt, [touching, apart], [Ok(None), Ok(None)]);
 }
 
 // How many pieces there are after the two marks, after the expiry of the first one, and once the keys of the range are

@@ -1,6 +1,8 @@
 // Keys, ranges and sets of ranges with known answers.
 use crate::asserting::same;
-use fdb_keys::{Items, Key, KeyRange, RangeSet, Refusal, Refused, TreeRangeSet, is_before};
+use fdb_keys::{
+    Items, Key, KeyRange, RangeSet, Refusal, Refused, TreeRangeSet, is_before, push_between,
+};
 use fdb_making::{
     after, are_ranges, both, code_of, equals_copy, has_bounds, keys_of, made_of, set_of, shared,
     text_of,
@@ -92,6 +94,25 @@ fn range_has_its_begin_and_not_its_end(rt: HostRuntime) {
     for (other, wanted) in BESIDE.as_slice() {
         same(&rt, a_to_c_beside(alloc, *other), Ok(*wanted));
     }
+}
+
+// Whether the range alone lies between its bounds, and nothing between these turned round.
+fn is_between(alloc: Global, range: &KeyRange) -> Result<bool, Refusal> {
+    let (begin, end) = (range.begin(), range.end());
+    let mut ranges = Vec::new(alloc);
+    push_between(range.begin_text(), range.end_text(), &mut ranges)?;
+    push_between(range.end_text(), range.begin_text(), &mut ranges)?;
+    Ok(are_ranges(ranges.as_slice(), &[(begin, end)]))
+}
+
+#[test]
+fn between_two_bounds_is_a_range_or_nothing(rt: HostRuntime) {
+    let alloc = rt.alloc();
+    let found = made_of(
+        KeyRange::new(alloc, b"a", b"c"),
+        |range| is_between(alloc, range),
+    );
+    same(&rt, found, Ok(true));
 }
 
 // Whether the range of the key a alone ends right after it.
@@ -186,6 +207,8 @@ enum Made {
     Outside(&'static [Bounds]),
     // The set of the first ranges, to which the others are added at once.
     Joined(&'static [Bounds], &'static [Bounds]),
+    // The set of the first ranges, to which that of the others is added.
+    Both(&'static [Bounds], &'static [Bounds]),
 }
 
 fn minus(alloc: Global, other: Bounds) -> Result<RangeSet, Refusal> {
@@ -220,6 +243,12 @@ fn joined(alloc: Global, bounds: &[Bounds], others: &[Bounds]) -> Result<RangeSe
     Ok(set)
 }
 
+fn both_sets(alloc: Global, bounds: &[Bounds], others: &[Bounds]) -> Result<RangeSet, Refusal> {
+    let (mut set, others) = both(set_of(alloc, bounds), set_of(alloc, others))?;
+    set.add_set(&others)?;
+    Ok(set)
+}
+
 fn set_made(alloc: Global, how: Made) -> Result<RangeSet, Refusal> {
     match how {
         Made::Set => a_to_d(alloc),
@@ -227,17 +256,19 @@ fn set_made(alloc: Global, how: Made) -> Result<RangeSet, Refusal> {
         Made::Without(other) => without(alloc, other),
         Made::Outside(bounds) => outside(alloc, bounds),
         Made::Joined(bounds, others) => joined(alloc, bounds, others),
+        Made::Both(bounds, others) => both_sets(alloc, bounds, others),
     }
 }
 
 // Whether it is empty, and whether it is the set of just these ranges.
 fn is_set(alloc: Global, how: Made, wanted: &[Bounds]) -> Result<[bool; 2], Refusal> {
     let set = set_made(alloc, how)?;
-    Ok([set.is_empty(), are_ranges(set.iter().as_slice(), wanted)])
+    let has_none = set.is_empty() && !set.has_points();
+    Ok([has_none, are_ranges(set.iter().as_slice(), wanted)])
 }
 
 // The sets with their ranges. Ranges that touch are joined.
-static SETS: [(Made, &'static [Bounds]); 9] = [
+static SETS: [(Made, &'static [Bounds]); 11] = [
     (Made::Set, &[(b"a", b"d")]),
     (Made::Minus((b"b", b"c")), &[(b"a", b"b"), (b"c", b"d")]),
     (Made::Minus((b"d", b"e")), &[(b"a", b"d")]),
@@ -270,6 +301,12 @@ static SETS: [(Made, &'static [Bounds]); 9] = [
         &[(b"a", b"h"), (b"x", b"y")],
     ),
     (Made::Joined(&[(b"a", b"b")], &[]), &[(b"a", b"b")]),
+    // A set that is added to an empty one, and to another one.
+    (Made::Both(&[], &[(b"a", b"b")]), &[(b"a", b"b")]),
+    (
+        Made::Both(&[(b"a", b"b"), (b"x", b"y")], &[(b"b", b"c")]),
+        &[(b"a", b"c"), (b"x", b"y")],
+    ),
 ];
 
 #[test]

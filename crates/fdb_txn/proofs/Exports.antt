@@ -9,6 +9,9 @@ pub use Rattle.fdb_txn.proofs.book.HistoryLemmas.{places_are_found_in_the_book}
 pub use Rattle.fdb_txn.proofs.book.HistoryLemmas.{places_are_history, seen_of-push, up_to-above, up_to-all}
 pub use Rattle.fdb_txn.proofs.rules.AskedLemmas.{committed_by_the_asked, old_is_asked, owner-exists, point_of-set}
 pub use Rattle.fdb_txn.proofs.rules.AskedLemmas.{points_from-in_set}
+pub use Rattle.fdb_txn.proofs.rules.ConflictLemmas.{committed_without_conflict, conflicts_are_found, conflicts_are_read}
+pub use Rattle.fdb_txn.proofs.rules.ConflictLemmas.{conflicts_at_some_earlier, finder_is_asked, found_is_in_conflict}
+pub use Rattle.fdb_txn.proofs.rules.ConflictLemmas.{refused_by_conflict, state_finds_conflicts}
 pub use Rattle.fdb_txn.proofs.rules.CornersLemmas.{alike-first_owner, asked_at_some_point, nearest}
 pub use Rattle.fdb_txn.proofs.rules.CornersLemmas.{owned_at_some_version, some_of-any}
 pub use Rattle.fdb_txn.proofs.rules.MessagesLemmas.{at_most-more, entries-split, get-effects, meets_at_some_point}

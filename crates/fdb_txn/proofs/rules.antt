@@ -1,5 +1,6 @@
 pub mod AdmissionLemmas
 pub mod AskedLemmas
+pub mod ConflictLemmas
 pub mod CornersLemmas
 pub mod ExamplesLemmas
 pub mod MessagesLemmas

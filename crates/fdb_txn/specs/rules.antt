@@ -1,4 +1,5 @@
 pub mod Admission
+pub mod Conflicts
 pub mod Messages
 pub mod Owners
 pub mod Resolvers

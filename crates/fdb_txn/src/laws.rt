@@ -10,6 +10,10 @@ ghost use Rattle.fdb_txn.specs.laws.Examples.{Sizes, OneBatch, WriteSkew, FalseC
 ghost use Rattle.fdb_txn.specs.laws.Examples.{EqualIsNotNewer, Window, OldReading, TwoMoves, Spans, AtBounds};
 ghost use Rattle.fdb_txn.specs.laws.Examples.{ShardMessages, Entries, Books, Numbers, Horizon, Horizons};
 ghost use Rattle.fdb_txn.specs.laws.StampExamples.{Stamps};
+ghost use Rattle.fdb_txn.specs.laws.ConflictExamples.{WorkedConflicts};
+ghost use Rattle.fdb_txn.specs.laws.ConflictLaws.{ConflictsAtSomeEarlier, ConflictsAreRead, ConflictsAreFound};
+ghost use Rattle.fdb_txn.specs.laws.ConflictLaws.{FoundIsInConflict, FinderIsAsked, CommittedWithoutConflict};
+ghost use Rattle.fdb_txn.specs.laws.ConflictLaws.{RefusedByConflict, StateFindsConflicts};
 ghost use Rattle.fdb_txn.specs.laws.AdmissionLaws.{OverlapsAtSomePoint, AskedAtSomePoint, OwnedAtSomeVersion};
 ghost use Rattle.fdb_txn.specs.laws.AdmissionLaws.{AdmitsWithoutConflict, CommittedByTheAsked, OldIsAsked};
 ghost use Rattle.fdb_txn.specs.laws.ResolverLaws.{AskedWhereItHasAPart, LastVersionsDecide, OnePlaceMore, StateDecides};
@@ -120,6 +124,33 @@ pub fn a_resolver_with_its_part_alone_answers_the_rule_and_keeps_its_state()
     ensures forgotten { ForgottenAgree }
 {}
 
+/// A point is in the conflict set of a place exactly where the place read it, and some earlier place of a version above
+/// the place's read version wrote it and was admitted by who owned it at that version.
+pub fn conflict_sets_have_what_some_earlier_place_wrote_unseen()
+    ensures earlier { ConflictsAtSomeEarlier }
+    ensures read { ConflictsAreRead }
+{}
+
+/// The conflict set of a place of a history is what all resolvers find of it together. Who finds a point of a fresh
+/// place's set is asked about the place, so nothing is missed where those who aren't asked are left out.
+pub fn conflict_sets_are_what_resolvers_find()
+    ensures found { ConflictsAreFound }
+    ensures conflicts { FoundIsInConflict }
+    ensures asked { FinderIsAsked }
+{}
+
+/// A fresh place is committed exactly where its conflict set has no point, and where it isn't committed there is one.
+pub fn fresh_places_are_committed_exactly_where_their_conflict_set_is_empty()
+    ensures committed { CommittedWithoutConflict }
+    ensures refused { RefusedByConflict }
+{}
+
+/// A resolver that has only its part of each place, and has forgotten what is below the horizon, finds of a fresh
+/// place's conflict set what it is to find by the definition.
+pub fn a_resolver_with_its_part_alone_finds_its_conflicts()
+    ensures { StateFindsConflicts }
+{}
+
 /// A book of sealed transactions is a list of entries from version 0 on that has no id twice, and whose horizons never
 /// fall.
 pub fn books_are_entries()
@@ -190,6 +221,11 @@ pub fn worked_examples()
     ensures numbers { Numbers }
     ensures horizon { Horizon }
     ensures horizons { Horizons }
+{}
+
+/// The conflict sets of some places of small books, and what each of two resolvers finds of them.
+pub fn worked_conflicts()
+    ensures { WorkedConflicts }
 {}
 
 /// The number of each limit.

@@ -10,6 +10,8 @@ use Rattle.fdb_txn.specs.laws.Examples.{OneBatch, WriteSkew, FalseConflict, Form
 use Rattle.fdb_txn.specs.laws.Examples.{Window, OldReading, TwoMoves, Spans, AtBounds, ShardMessages, Entries}
 use Rattle.fdb_txn.specs.laws.Examples.{of_three_ids, Books, Numbers, Horizon, Horizons}
 use Rattle.fdb_txn.specs.laws.StampExamples.{Stamps}
+use Rattle.fdb_txn.specs.laws.ConflictExamples.{OneKey, TwoResolvers, HalfRefused, MovedKeys, OtherPlaces, OldPlaces}
+use Rattle.fdb_txn.specs.laws.ConflictExamples.{WorkedConflicts}
 
 pub one_batch_computes : OneBatch
 unfolding point_lt
@@ -72,6 +74,41 @@ shard_messages_compute = (refl, refl, refl)
 pub stamps_compute : Stamps
 unfolding point_lt
 stamps_compute = (refl, refl, refl, refl, (λ none. both_ways true none.0 refl))
+
+one_key_computes : OneKey
+unfolding point_lt
+one_key_computes = (refl, refl)
+
+two_resolvers_computes : TwoResolvers
+unfolding point_lt
+two_resolvers_computes = refl
+
+half_refused_computes : HalfRefused
+unfolding point_lt
+half_refused_computes = (refl, refl)
+
+moved_keys_compute : MovedKeys
+unfolding point_lt
+moved_keys_compute = (refl, refl)
+
+other_places_compute : OtherPlaces
+unfolding point_lt
+other_places_compute = (refl, refl, refl, refl)
+
+old_places_compute : OldPlaces
+unfolding point_lt
+old_places_compute = (refl, refl)
+
+-- the conflict sets of the examples compute
+pub conflicts_compute : WorkedConflicts
+conflicts_compute = (
+  one_key_computes,
+  two_resolvers_computes,
+  half_refused_computes,
+  moved_keys_compute,
+  other_places_compute,
+  old_places_compute,
+)
 
 pub entries_are_judged : Entries
 entries_are_judged = (

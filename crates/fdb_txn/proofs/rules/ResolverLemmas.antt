@@ -19,7 +19,7 @@ use Rattle.fdb_txn.proofs.rules.CornersLemmas.{overlaps_at_some_point, owned_at_
 
 -- What a fresh place reads, and a resolver owned at the version of an earlier place above the read version,
 -- is of the resolver's part.
-part_reads-earlier : (splits : List Point) (i : ℕ) (place u : Place) (x : Point) → Follows place u
+pub part_reads-earlier : (splits : List Point) (i : ℕ) (place u : Place) (x : Point) → Follows place u
     → is_fresh place ≡ true
     → place.transaction.read < u.version → in_set place.transaction.reads x ≡ true
     → owner splits u.moves x u.version ≡ i
@@ -37,13 +37,13 @@ is_against splits i place us u = nat_lt place.transaction.read
 
 module _ (splits : List Point) (i : ℕ) where
   -- one place more lowers no last version
-  last-grows : (u : Place) (us : List Place) (x : Point)
+  pub last-grows : (u : Place) (us : List Place) (x : Point)
       → last_commit_version splits i us x ≤ last_commit_version splits i (u ∷ us) x
   last-grows u us x = cond_both (admits splits i us u && part_writes splits i u x) _ _
       (λ n. last_commit_version splits i us x ≤ n) (λ added. omega arith) (λ kept. omega arith)
 
   -- a last version is at least that of a place that is admitted and writes the resolver's point
-  last-reaches : (u : Place) (us : List Place) (x : Point) → admits splits i us u ≡ true
+  pub last-reaches : (u : Place) (us : List Place) (x : Point) → admits splits i us u ≡ true
       → part_writes splits i u x ≡ true
       → u.version ≤ last_commit_version splits i (u ∷ us) x
   last-reaches u us x admitted written =
