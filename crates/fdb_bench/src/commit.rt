@@ -214,7 +214,7 @@ fn commit(
     let _batch = core.seal()?;
     learn(core, ticket)?;
     ask(alloc, core)?;
-    let _outcomes = core.decide()?;
+    let _decision = core.decide()?;
     log(core)?;
     let _answers = core.done()?;
     Ok(())
@@ -272,6 +272,7 @@ fn agree(alloc: Global, part: &Part) -> Result<Verdicts, Refusal> {
         resolver: part.resolver,
         index: part.index,
         answers,
+        conflicts: Items::new(alloc),
     })
 }
 

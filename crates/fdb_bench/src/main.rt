@@ -18,8 +18,9 @@ use std::env;
 use std::process::ExitCode;
 use std::time::Duration;
 
-const USAGE: &str = "fdb_bench resolver ITEMS
-    A resolver takes so many items in batches of 100, each with a read range and a write range.
+const USAGE: &str = "fdb_bench resolver ITEMS PERCENT
+    A resolver takes so many items in batches of 100, each with a read range and a write range. So many percent of them,
+    0, or 1 to 50, conflict.
 fdb_bench commit RESOLVERS BATCH TRANSACTIONS MOVES
     A commit proxy commits so many transactions, after it learnt so many moves.
 fdb_bench serial TRANSACTIONS
@@ -62,7 +63,7 @@ fn run(rt: &HostRuntime) -> Result<(), Fault> {
 
 fn obey(rt: &HostRuntime, words: &[&str]) -> Result<(), Fault> {
     match words {
-        ["resolver", items] => run_resolver(rt, items),
+        ["resolver", items, percent] => run_resolver(rt, items, percent),
         ["commit", resolvers, batch, transactions, moves] => {
             run_commit(rt, resolvers, batch, transactions, moves)
         }
@@ -83,10 +84,15 @@ fn show_usage(rt: &HostRuntime) -> Result<(), Fault> {
     Ok(())
 }
 
-fn run_resolver(rt: &HostRuntime, items: &str) -> Result<(), Fault> {
-    let items = number_of(items)?;
-    let took = resolver::measure(rt, rt.alloc(), items)?;
-    report(rt, "resolver", &[("items", items)], took)
+fn run_resolver(rt: &HostRuntime, items: &str, percent: &str) -> Result<(), Fault> {
+    let (items, percent) = (number_of(items)?, number_of(percent)?);
+    let took = resolver::measure(rt, rt.alloc(), items, percent)?;
+    report(
+        rt,
+        "resolver",
+        &[("items", items), ("percent", percent)],
+        took,
+    )
 }
 
 fn run_commit(

@@ -4,7 +4,7 @@ ghost use Rattle.fdb_resolver.specs.Parts.{IsPart};
 ghost use Rattle.fdb_bench.specs.Items.{AreItemsBelow};
 
 use crate::numbers::{Fault, one_range, shared};
-use fdb_keys::{Items, Refusal};
+use fdb_keys::{Items, RangeSet, Refusal};
 use fdb_resolver::{Item, Part, ResolverCore};
 use fdb_txn::WINDOW;
 use rand_pcg::Pcg32;
@@ -20,14 +20,21 @@ const ADVANCE: u64 = 1_000;
 // How far below its entry's version a transaction reads.
 const BEHIND: u64 = 5_000;
 
-/// How long a new resolver takes for parts with so many items in all, each with one read range and one write range. The
-/// parts are made outside of that time.
-pub(crate) fn measure<R: Clock>(rt: &R, alloc: Global, items: u32) -> Result<Duration, Fault> {
+/// How long a new resolver takes for parts with so many items in all, each with one read range and one write range. So
+/// many percent of the items, none for 0, read what the item before wrote, and conflict. The parts are made outside of
+/// that time.
+pub(crate) fn measure<R: Clock>(
+    rt: &R,
+    alloc: Global,
+    items: u32,
+    percent: u32,
+) -> Result<Duration, Fault> {
     let mut core = ResolverCore::new(alloc, 0);
     let mut random = Pcg32::new(1, 1);
     let mut took = Duration::ZERO;
+    let every = if percent == 0 { 0 } else { 100 / percent };
     for index in 0..items / BATCH {
-        let part = part_of(alloc, &mut random, index)?;
+        let part = part_of(alloc, &mut random, index, every)?;
         took = took.saturating_add(take(rt, &mut core, &part)?);
     }
     Ok(took)
@@ -44,14 +51,14 @@ fn take<R: Clock>(rt: &R, core: &mut ResolverCore, part: &Part) -> Result<Durati
 }
 
 // The part of an entry.
-fn part_of(alloc: Global, random: &mut Pcg32, index: u32) -> Result<Part, Refusal>
+fn part_of(alloc: Global, random: &mut Pcg32, index: u32, every: u32) -> Result<Part, Refusal>
     ensures { IfOk result IsPart }
 {
     let prev = u64::from(index) * ADVANCE;
     let version = prev + ADVANCE;
     let items = shared(
         alloc,
-        items_of(alloc, random, version.saturating_sub(BEHIND))?,
+        items_of(alloc, random, version.saturating_sub(BEHIND), every)?,
     )?;
     Ok(Part {
         resolver: 0,
@@ -63,33 +70,50 @@ fn part_of(alloc: Global, random: &mut Pcg32, index: u32) -> Result<Part, Refusa
     })
 }
 
-// The items of the first 100 places.
-fn items_of(alloc: Global, random: &mut Pcg32, read_version: u64) -> Result<Items<Item>, Refusal>
+// The items of the first 100 places. The last one of every so many, none for 0, reads what the one before it wrote.
+fn items_of(
+    alloc: Global,
+    random: &mut Pcg32,
+    read_version: u64,
+    every: u32,
+) -> Result<Items<Item>, Refusal>
     ensures { IfOk result (AreItemsBelow 100) }
 {
     let mut items = Items::new(alloc);
+    let mut written = RangeSet::new(alloc);
     for place in 0..BATCH {
-        items.push(item_of(alloc, random, place, read_version)?)?;
+        let conflicts = every > 0 && place % every == every - 1;
+        let reads = reads_of(alloc, random, &written, conflicts)?;
+        let writes = one_range(alloc, random)?;
+        written = writes.clone()?;
+        items.push(item_of(place, read_version, reads, writes))?;
     }
     Ok(items)
 }
 
-// The item of a place.
-fn item_of(
+// What an item reads: what was written before it, if it is to conflict.
+fn reads_of(
     alloc: Global,
     random: &mut Pcg32,
-    place: u32,
-    read_version: u64,
-) -> Result<Item, Refusal>
-    ensures { IfOk result (λ item. (item.place ≡ place) × (item.has_reads ≡ true)) }
+    written: &RangeSet,
+    conflicts: bool,
+) -> Result<RangeSet, Refusal> {
+    if conflicts {
+        let reads = written.clone()?;
+        return Ok(reads);
+    }
+    one_range(alloc, random)
+}
+
+// The item of a place.
+fn item_of(place: u32, read_version: u64, reads: RangeSet, writes: RangeSet) -> Item
+    ensures { (result.place ≡ place) × (result.has_reads ≡ true) }
 {
-    let reads = one_range(alloc, random)?;
-    let writes = one_range(alloc, random)?;
-    Ok(Item {
+    Item {
         place,
         read_version,
         has_reads: true,
         reads,
         writes,
-    })
+    }
 }

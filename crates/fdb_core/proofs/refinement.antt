@@ -1,4 +1,5 @@
 pub mod BookPushes
+pub mod ConflictLemmas
 pub mod RestoringLemmas
 pub mod RolesLemmas
 pub mod ServingLaws

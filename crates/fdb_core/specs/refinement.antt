@@ -1,4 +1,5 @@
 pub mod Cluster
+pub mod Conflicts
 pub mod Restoring
 pub mod Starts
 pub mod Steps

@@ -17,7 +17,7 @@ use crate::roles::log::{LogRole, new_logs};
 use crate::roles::resolver::{ResolverRole, new_resolvers};
 use crate::roles::sequencer::first_sequencer;
 use crate::roles::shard::{ShardRole, new_shards};
-use fdb_keys::{Items, Refusal};
+use fdb_keys::{Items, RangeSet, Refusal};
 use fdb_log::LogMsg;
 use fdb_proxy::{Config, GrvCore};
 use fdb_resolver::Part;
@@ -38,6 +38,8 @@ pub(crate) struct Cluster {
     // For each entry the parts for the resolvers, and once it is decided the messages for the logs.
     pub(crate) parts: Vec<Items<Part>>,
     pub(crate) messages: Vec<Option<Items<LogMsg>>>,
+    // For each entry the conflict sets of its places, once it is decided. None has any where no place conflicts.
+    pub(crate) conflicts: Vec<Items<RangeSet>>,
     pub(crate) commit_proxies: Vec<CommitProxyRole>,
     pub(crate) resolvers: Vec<ResolverRole>,
     pub(crate) logs: Vec<LogRole>,
@@ -70,6 +72,7 @@ impl Cluster {
             decided: Vec::new(alloc),
             parts: Vec::new(alloc),
             messages: Vec::new(alloc),
+            conflicts: Vec::new(alloc),
             commit_proxies,
             resolvers,
             logs,

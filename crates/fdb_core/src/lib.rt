@@ -4,6 +4,7 @@
 mod book;
 mod check;
 mod cluster;
+mod conflicts;
 mod in_flight;
 pub mod laws;
 mod roles;

@@ -2,7 +2,7 @@ use crate::check::whole::check_all;
 use crate::cluster::Cluster;
 use fdb_check::CheckFault;
 use fdb_client::Txn;
-use fdb_keys::Refusal;
+use fdb_keys::{RangeSet, Refusal};
 use fdb_machine::{Answered, InFlight, Step};
 use fdb_proxy::Config;
 use fdb_roles::Placed;
@@ -48,6 +48,7 @@ impl World {
     ghost use Rattle.fdb_machine.specs.machine.AnyStep.{Step};
     ghost use Rattle.std.specs.Option.{option_copied};
     ghost use Rattle.fdb_txn.specs.book.History.{IsBook, IsSealed};
+    ghost use Rattle.fdb_machine.specs.machine.Conflicts.{IsConflictOf};
     ghost use Rattle.fdb_machine.specs.machine.InFlight.{in_flight};
     ghost use Rattle.fdb_machine.specs.machine.Sessions.{open_at};
     ghost use Rattle.fdb_machine.specs.headline.Headline.{IsStrictlySerializable};
@@ -118,6 +119,15 @@ impl World {
         ensures { option_copied result ≡ open_at self.now.state.machine.sessions session }
     {
         self.cluster.sessions.open(session)
+    }
+
+    /// The conflict set of the session's last transaction: the points at which it conflicts, if it was refused as
+    /// `NotCommitted`. There is one from the answer that says so until the session begins another transaction. It takes
+    /// no memory, and O(n + m) time for the n entries and the m places of those in which a place conflicts.
+    pub fn conflict(&self, session: u32) -> Option<&RangeSet>
+        ensures { IsConflictOf self.now.state.machine session (option_copied result) }
+    {
+        self.cluster.conflict(session)
     }
 
     /// The configuration of the world.

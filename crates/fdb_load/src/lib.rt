@@ -5,6 +5,7 @@ mod client;
 mod clients;
 mod counters;
 mod halt;
+mod hot_keys;
 mod judging;
 pub mod laws;
 mod load;
@@ -21,6 +22,7 @@ mod values;
 mod watch;
 mod workload;
 
+pub use hot_keys::HotKeys;
 pub use judging::{Asked, Kept, is_all, judge};
 pub use load::{Load, run_threads};
 pub use names::name_of;

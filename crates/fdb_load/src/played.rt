@@ -1,7 +1,8 @@
 ghost use Rattle.std.specs.Prelude.{◌≡◌, [], None};
 
 use crate::halt::Halt;
-use fdb_keys::{Refusal, Refused};
+use crate::hot_keys::HotKeys;
+use fdb_keys::{RangeSet, Refusal, Refused};
 use fdb_roles::Placed;
 use fdb_runtime::{ClusterName, Receipt, Transcript};
 use std::alloc::Global;
@@ -17,6 +18,8 @@ pub struct Played {
     pub doubtful: Vec<Transcript>,
     /// Why the first client ended that ended by a refusal.
     pub refused: Option<Refusal>,
+    /// At which keys tries conflicted.
+    pub hot: HotKeys,
 }
 
 impl Played {
@@ -32,6 +35,7 @@ impl Played {
             aborted: 0,
             doubtful: Vec::new(alloc),
             refused: None,
+            hot: HotKeys::new(alloc),
         }
     }
 
@@ -46,7 +50,7 @@ impl Played {
     /// neither ends the client.
     pub(crate) fn note<B: ClusterName>(
         &mut self,
-        answer: Result<Receipt<B>, Refused<Option<Transcript>>>,
+        answer: Result<Receipt<B>, Refused<Option<(Transcript, RangeSet)>>>,
     ) -> Result<bool, Halt> {
         match answer {
             Ok(receipt) => self.note_placed(receipt.into_placed()),
@@ -61,10 +65,20 @@ impl Played {
         }
     }
 
-    fn note_refused(&mut self, why: Refusal, back: Option<Transcript>) -> Result<bool, Halt> {
+    fn note_refused(
+        &mut self,
+        why: Refusal,
+        back: Option<(Transcript, RangeSet)>,
+    ) -> Result<bool, Halt> {
         match (why, back) {
-            (Refusal::CommitUnknownResult, Some(transcript)) => self.note_doubtful(transcript),
-            (why, _) => self.note_aborted(why),
+            (Refusal::CommitUnknownResult, Some((transcript, _conflict))) => {
+                self.note_doubtful(transcript)
+            }
+            (why, Some((_transcript, conflict))) => {
+                self.hot.note(&conflict)?;
+                self.note_aborted(why)
+            }
+            (why, None) => self.note_aborted(why),
         }
     }
 
@@ -108,9 +122,13 @@ impl Played {
             aborted,
             doubtful,
             refused,
+            hot,
         } = other;
         self.aborted = self.aborted.saturating_add(aborted);
         if let Some(why) = refused {
+            self.note_ended(why);
+        }
+        if let Err(why) = self.hot.join(&hot) {
             self.note_ended(why);
         }
         self.take_placed(placed);

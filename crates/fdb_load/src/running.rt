@@ -259,6 +259,9 @@ fn play_all<
     if let Err(why) = started {
         played.note_ended(why);
     }
+    if load.progress {
+        played.hot.tell(err)?;
+    }
     match watched {
         Ok(()) => Ok(played),
         Err(stop) => Err(stop),

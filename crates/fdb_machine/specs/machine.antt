@@ -2,6 +2,7 @@ pub mod AnyStep
 pub mod Acting
 pub mod ClientSteps
 pub mod CommitProxySteps
+pub mod Conflicts
 pub mod Failures
 pub mod GrvProxySteps
 pub mod InFlight

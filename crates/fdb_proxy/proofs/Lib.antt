@@ -1,8 +1,11 @@
 pub mod Exports
 mod BodyLemmas
 mod CloneLemmas
+mod ConflictLemmas
 mod DecidingLemmas
+mod FoundLemmas
 mod HeldLemmas
+mod JoiningLemmas
 mod LoggingLemmas
 mod MessageLemmas
 mod NameLemmas

@@ -26,7 +26,7 @@ use Rattle.fdb_proxy.specs.VerdictLaws.{AreByTheRule, BatchesAreDecidedByTheRule
 use Rattle.fdb_proxy.proofs.VerdictLemmas.{history-before}
 
 -- what passes a test stands somewhere in the list
-place_of-any : {A : Type 0} (test : A → Bool) (xs : List A) → list_any test xs ≡ true
+pub place_of-any : {A : Type 0} (test : A → Bool) (xs : List A) → list_any test xs ≡ true
     → (i : ℕ) × (x : A) × (slice_get xs i ≡ Some x) × (test x ≡ true)
 place_of-any test [] some = cc
 place_of-any test (x ∷ xs) some = ⊎_elim
@@ -73,7 +73,7 @@ mentions-front : (test : Verdict → Bool) (q p : ℕ) (v : Verdict) (asked : Bo
 mentions-front test q p v true said = refl
 mentions-front test q p v false said = refl
 
-apart : (p q : ℕ) → (p ≡ q → ⊥) → p == q ≡ false
+pub apart : (p q : ℕ) → (p ≡ q → ⊥) → p == q ≡ false
 apart p q differs = false_from_ne_true _ (λ same. differs (eqb-true p q same))
 
 nothing-here : (asked holds : Bool) → (asked && (false && holds)) ≡ false

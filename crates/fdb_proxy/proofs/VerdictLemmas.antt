@@ -27,7 +27,7 @@ history-before resolvers head p (t ∷ ts) earlier history =
     (history-before resolvers head (suc p) ts (placed head p t ∷ earlier) history).2
 
 -- a place that a resolver isn't asked about leaves its state as it is
-keeps-unasked : (splits : List Point) (i : ℕ) (place : Place) (earlier : List Place) (floor : ℕ) (f : Point → ℕ)
+pub keeps-unasked : (splits : List Point) (i : ℕ) (place : Place) (earlier : List Place) (floor : ℕ) (f : Point → ℕ)
     → IsHistory (suc (length splits)) (place ∷ earlier) → is_asked splits i place ≡ false
     → IsStateOf splits i earlier floor f → IsStateOf splits i (place ∷ earlier) floor f
 keeps-unasked splits i place earlier floor f history unasked state x v reached =

@@ -1,12 +1,16 @@
 -- What a commit proxy is after a call, computed.
-use Rattle.std.specs.Prelude.{◌≡◌, ℕ, true, false, [], ◌∷◌, length, Some, None}
+use Rattle.std.specs.Prelude.{◌≡◌, ℕ, true, false, List, [], ◌∷◌, length, Option, Some, None}
+use Rattle.fdb_keys.specs.Ranges.{single_range}
 use Rattle.fdb_keys.specs.declared.refusal.Refusal.TheVariants.{NotYet}
 use Rattle.fdb_resolver.specs.declared.verdict.Verdict.TheVariants as verdict
+use Rattle.fdb_resolver.specs.Rule.{Found}
 use Rattle.fdb_proxy.specs.declared.outcome.Outcome.TheVariants as outcome
 use Rattle.fdb_proxy.specs.declared.stage.Stage.TheVariants as stage
 use Rattle.fdb_proxy.specs.CommitProxies.{CommitProxy, submitting, sealing, with_verdict, deciding, answers_in}
-use Rattle.fdb_proxy.specs.CommitProxies.{with_logged, all_logged_fault, finishing}
-use Rattle.fdb_proxy.specs.Examples.{acknowledges, first_of, firsts, logging, logging_by, proxy, resolving, said, says}
+use Rattle.fdb_proxy.specs.CommitProxies.{with_logged, all_logged_fault, finishing, conflicts_in, decision_in}
+use Rattle.fdb_proxy.specs.Deciding.{Said}
+use Rattle.fdb_proxy.specs.Examples.{acknowledges, first_of, firsts, logging, logging_by, proxy, resolving}
+use Rattle.fdb_proxy.specs.Examples.{resolving_with, said, says}
 
 -- A request waits behind those who wait, whatever the batch in flight.
 abbrev pub WorkedSubmitting : Type 0
@@ -51,6 +55,38 @@ WorkedDeciding =
     })).stage
     ≡ ((first_of 0).id, outcome.Commit 200 0) ∷ ((first_of 2).id, outcome.Conflict) ∷ [])
     × (deciding (proxy (logging true) false) ≡ proxy (logging true) false)
+
+-- what a resolver found at a place: the key of one letter
+abbrev pub finds_key : ℕ → ℕ → Found
+finds_key place letter = (place, single_range (letter ∷ []) ∷ []) ∷ []
+
+-- a proxy with two transactions in flight, of which resolvers 0 and 2 refuse the second one
+abbrev pub refusing : List Found → CommitProxy
+refusing found =
+    record (proxy (resolving_with verdicts found) false) { batch = first_of 0 ∷ first_of 2 ∷ [] }
+  where
+    verdicts : List (Option Said)
+    verdicts = Some ((0, verdict.Yes) ∷ (1, verdict.Conflict) ∷ []) ∷ None ∷ Some ((1, verdict.Conflict) ∷ []) ∷ []
+
+-- Of a place in conflict all is known that some resolver found there, and of no other place anything. Where nobody
+-- found anything no place has a set, and what was found at a place beyond the batch means nothing. What a resolver
+-- found stands at it, beside what others did.
+abbrev pub WorkedConflicts : Type 0
+WorkedConflicts =
+    (decision_in (refusing (finds_key 1 97 ∷ [] ∷ finds_key 1 99 ∷ []))
+    ≡ record {
+      outcomes = outcome.Commit 200 0 ∷ outcome.Conflict ∷ [];
+      conflicts = [] ∷ (single_range (97 ∷ []) ∷ single_range (99 ∷ []) ∷ []) ∷ [];
+    })
+    × (conflicts_in (refusing (finds_key 1 97 ∷ [] ∷ finds_key 1 97 ∷ []))
+    ≡ [] ∷ (single_range (97 ∷ []) ∷ []) ∷ [])
+    × (conflicts_in (refusing ([] ∷ [] ∷ [] ∷ [])) ≡ [])
+    × (conflicts_in (refusing (finds_key 2 97 ∷ [] ∷ [] ∷ [])) ≡ [] ∷ [] ∷ [])
+    × (conflicts_in (proxy (logging false) false) ≡ [])
+    × (with_verdict (proxy (resolving_with (None ∷ None ∷ None ∷ []) (finds_key 0 97 ∷ [] ∷ [] ∷ [])) false)
+    (record { resolver = 2; index = 4; answers = (0, verdict.Conflict) ∷ []; conflicts = finds_key 0 99 })
+    ≡ proxy (resolving_with (None ∷ None ∷ said verdict.Conflict ∷ [])
+    (finds_key 0 97 ∷ [] ∷ finds_key 0 99 ∷ [])) false)
 
 -- An acknowledgement stands at its log, beside those that came before: after the first one of two the other log is
 -- still missing. A batch that isn't decided stays as it is.

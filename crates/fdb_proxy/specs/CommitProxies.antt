@@ -4,6 +4,7 @@ use Rattle.std.specs.Prelude.{◌∷◌, fold, length, replicate, take, drop, Op
 use Rattle.std.specs.List.{AllByRecursion, list_any}
 use Rattle.std.specs.Option.{option_or, is_none}
 use Rattle.fdb_keys.specs.Points.{Point}
+use Rattle.fdb_keys.specs.Ranges.{Range}
 use Rattle.fdb_keys.specs.declared.refusal.Refusal.{Refusal}
 use Rattle.fdb_keys.specs.declared.refusal.Refusal.TheVariants.{NotYet, Stale, Failed, Repeated, WrongState, BadConfig}
 use Rattle.fdb_txn.specs.declared.txn_id.TxnId.{TxnId}
@@ -20,12 +21,14 @@ use Rattle.fdb_sequencer.specs.TicketLaws.{AreRisingUpTo, GoToResolvers}
 use Rattle.fdb_log.specs.declared.message.LogAck.{LogAck}
 use Rattle.fdb_log.specs.declared.message.LogMsg.{LogMsg}
 use Rattle.fdb_proxy.specs.declared.config.Config.{Config}
+use Rattle.fdb_proxy.specs.declared.decision.Decision.{Decision}
 use Rattle.fdb_proxy.specs.declared.outcome.Outcome.{Outcome}
 use Rattle.fdb_proxy.specs.declared.position.Position.{Position}
 use Rattle.fdb_proxy.specs.declared.resolving.Resolving.{Resolving}
 use Rattle.fdb_proxy.specs.declared.stage.Stage.{Stage}
 use Rattle.fdb_proxy.specs.declared.stage.Stage.TheVariants as stage
 use Rattle.fdb_proxy.specs.Configs.{config_fault}
+use Rattle.fdb_proxy.specs.Conflicts.{conflicts_by}
 use Rattle.fdb_proxy.specs.Deciding.{outcomes_by}
 use Rattle.fdb_proxy.specs.Flags.{first_unset}
 use Rattle.fdb_proxy.specs.Logging.{answers_by, messages_by, with_acknowledgement}
@@ -175,8 +178,8 @@ abbrev pub without_verdicts : Position → List Part → Resolving
 without_verdicts position parts = record {
   position = position;
   parts = parts;
-  verdicts =
-      replicate (length parts) None;
+  verdicts = replicate (length parts) None;
+  conflicts = replicate (length parts) [];
 }
 
 -- owners that learnt the ticket's moves, and forgot what lies below its horizon
@@ -263,6 +266,18 @@ outcomes_in p = at_resolving p.stage
     at_resolving : Stage → List Outcome
     at_resolving (stage.Resolving batch) = outcomes_by batch.position.version batch.verdicts (length p.batch)
     at_resolving other = []
+
+-- and the conflict set of each place, by what the resolvers found; no place at all where none found anything
+abbrev pub conflicts_in : CommitProxy → List (List Range)
+conflicts_in p = at_resolving p.stage
+  where
+    at_resolving : Stage → List (List Range)
+    at_resolving (stage.Resolving batch) = conflicts_by batch.conflicts (length p.batch)
+    at_resolving other = []
+
+-- what is decided
+abbrev pub decision_in : CommitProxy → Decision
+decision_in p = record { outcomes = outcomes_in p; conflicts = conflicts_in p }
 
 -- once it is decided, it waits for every log
 abbrev pub deciding : CommitProxy → CommitProxy

@@ -9,6 +9,7 @@ use Rattle.fdb_resolver.specs.declared.part.Part.{Part}
 use Rattle.fdb_resolver.specs.declared.verdict.Verdict.{Verdict}
 use Rattle.fdb_resolver.specs.declared.verdict.Verdict.TheVariants as verdict
 use Rattle.fdb_resolver.specs.declared.verdict.Verdicts.{Verdicts}
+use Rattle.fdb_resolver.specs.Rule.{Found}
 use Rattle.fdb_sequencer.specs.declared.ticket.Ticket.{Ticket}
 use Rattle.fdb_log.specs.declared.message.LogAck.{LogAck}
 use Rattle.fdb_owners.specs.Ownership.{one_owner}
@@ -60,21 +61,31 @@ part resolver is_asked =
 
 -- the verdict of the resolver on the first place of an entry
 abbrev pub says : ℕ → ℕ → Verdicts
-says resolver index = record { resolver = resolver; index = index; answers = (0, verdict.Yes) ∷ [] }
+says resolver index = record { resolver = resolver; index = index; answers = (0, verdict.Yes) ∷ []; conflicts = [] }
 
--- resolvers 0 and 2 are asked, and these verdicts came
-abbrev pub resolving : List (Option Said) → Stage
-resolving verdicts =
+-- resolvers 0 and 2 are asked, and these verdicts came, with what each one found
+abbrev pub resolving_with : List (Option Said) → List Found → Stage
+resolving_with verdicts found =
     stage.Resolving (record {
       position = here;
       parts = part 0 true ∷ part 1 false ∷ part 2 true ∷ [];
       verdicts = verdicts;
+      conflicts = found;
     })
+
+-- the same, where nobody found anything
+abbrev pub resolving : List (Option Said) → Stage
+resolving verdicts = resolving_with verdicts ([] ∷ [] ∷ [] ∷ [])
 
 -- the verdict of resolver 0 on each of these places of entry 4
 abbrev pub says_on : List ℕ → Verdicts
 says_on places =
-    record { resolver = 0; index = 4; answers = map (λ (place : ℕ). (place, verdict.Yes)) places }
+    record {
+      resolver = 0;
+      index = 4;
+      answers = map (λ (place : ℕ). (place, verdict.Yes)) places;
+      conflicts = [];
+    }
 
 -- it is decided, and each log hasn't acknowledged it, or has
 abbrev pub logging_by : List Bool → Stage
@@ -161,7 +172,7 @@ WorkedVerdicts =
     × (verdict_fault (proxy (resolving (None ∷ None ∷ None ∷ [])) false) (says_on (0 ∷ 1 ∷ [])) ≡ Some Stale)
     × (verdict_fault (proxy (resolving (None ∷ None ∷ None ∷ [])) false) (says_on []) ≡ Some Stale)
     × (verdict_fault (proxy (resolving (None ∷ None ∷ None ∷ [])) false)
-    (record { resolver = 1; index = 4; answers = [] }) ≡ None)
+    (record { resolver = 1; index = 4; answers = []; conflicts = [] }) ≡ None)
     × (verdict_fault (proxy (logging false) false) (says 0 4) ≡ Some Stale)
     × (verdict_fault (proxy stage.Idle false) (says 0 4) ≡ Some Stale)
 

@@ -5,6 +5,7 @@ pub mod CommitFields
 pub mod CommitProxies
 pub mod ConfigExamples
 pub mod Configs
+pub mod Conflicts
 pub mod Deciding
 pub mod Examples
 pub mod Flags

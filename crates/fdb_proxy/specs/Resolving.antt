@@ -36,7 +36,10 @@ is_awaited batch verdicts =
 -- once they came
 abbrev pub with_verdicts : Resolving → Verdicts → Resolving
 with_verdicts batch verdicts =
-    record batch { verdicts = slice_set batch.verdicts verdicts.resolver (Some verdicts.answers) }
+    record batch {
+      verdicts = slice_set batch.verdicts verdicts.resolver (Some verdicts.answers);
+      conflicts = slice_set batch.conflicts verdicts.resolver verdicts.conflicts;
+    }
 
 -- the resolver is asked about some place
 abbrev pub asks : Part → Bool

@@ -1,11 +1,12 @@
 -- What resolvers and proxies say of the places of an entry.
-use Rattle.std.specs.Prelude.{ℕ, suc, Bool, ◌||◌, List, [], ◌∷◌, if◌then◌else◌}
+use Rattle.std.specs.Prelude.{ℕ, suc, Bool, false, ◌||◌, ◌&&◌, List, [], ◌∷◌, Option, Some, None, if◌then◌else◌}
 use Rattle.fdb_keys.specs.Points.{Point}
 use Rattle.fdb_txn.specs.declared.entry.Entry.{Entry}
 use Rattle.fdb_txn.specs.book.Transactions.{Transaction}
 use Rattle.fdb_txn.specs.book.Book.{DatedMove, Head, Place, Seen, add_moves, head_of, placed}
 use Rattle.fdb_txn.specs.rules.Owners.{is_asked}
 use Rattle.fdb_txn.specs.rules.Admission.{is_fresh, admits, committed}
+use Rattle.fdb_txn.specs.rules.Conflicts.{in_conflict, in_conflict_of}
 use Rattle.fdb_resolver.specs.declared.verdict.Verdict.{Verdict}
 use Rattle.fdb_resolver.specs.declared.verdict.Verdict.TheVariants as verdict
 use Rattle.fdb_proxy.specs.declared.outcome.Outcome.{Outcome}
@@ -22,6 +23,17 @@ outcome_at splits earlier place p =
     if is_fresh place then (if committed splits earlier place then outcome.Commit place.version p else outcome.Conflict)
     else outcome.Old
 
+-- whether resolver i finds the point at a place, if there is one: it isn't old, and i finds the point of its conflict
+-- set
+abbrev pub found_at : List Point → ℕ → Option (Place × List Place) → Point → Bool
+found_at splits i None x = false
+found_at splits i (Some there) x = is_fresh there.0 && in_conflict_of splits i there.1 there.0 x
+
+-- whether a place, if there is one, is refused at the point: it isn't old, and the point is in its conflict set
+abbrev pub conflict_at : List Point → Option (Place × List Place) → Point → Bool
+conflict_at splits None x = false
+conflict_at splits (Some there) x = is_fresh there.0 && in_conflict splits there.1 there.0 x
+
 -- one after another, the places of a batch from number p on, after the earlier ones
 module _ (splits : List Point) (head : Head) where
   -- what resolver i says of those that it is asked about
@@ -35,7 +47,7 @@ module _ (splits : List Point) (head : Head) where
 
   -- whether resolver i is asked about any
   abbrev pub asks_about : ℕ → ℕ → List Transaction → Bool
-  asks_about i p [] = Rattle.std.specs.Prelude.false
+  asks_about i p [] = false
   asks_about i p (t ∷ ts) = is_asked splits i (placed head p t) || asks_about i (suc p) ts
 
   -- what becomes of each

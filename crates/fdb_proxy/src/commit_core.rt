@@ -1,4 +1,5 @@
 use crate::config::Config;
+use crate::decision::Decision;
 use crate::logging::{Logging, logged};
 use crate::outcome::Outcome;
 use crate::requests::Requests;
@@ -57,7 +58,7 @@ impl CommitCore {
     ghost use Rattle.fdb_proxy.specs.CommitProxies.{new_fault, IsNewProxy, is_idle, failed_fault, id_fault};
     ghost use Rattle.fdb_proxy.specs.CommitProxies.{submit_fault, submitting, seal_fault, sealing, unsealing};
     ghost use Rattle.fdb_proxy.specs.CommitProxies.{IsTicketFor, learn_fault, HasLearntTicket, HasFailed, parts_fault};
-    ghost use Rattle.fdb_proxy.specs.CommitProxies.{parts_in, verdict_fault, with_verdict, decide_fault, outcomes_in};
+    ghost use Rattle.fdb_proxy.specs.CommitProxies.{parts_in, verdict_fault, with_verdict, decide_fault, decision_in};
     ghost use Rattle.fdb_proxy.specs.CommitProxies.{deciding, messages_fault, messages_of, logged_fault, with_logged};
     ghost use Rattle.fdb_proxy.specs.CommitProxies.{all_logged_fault, done_fault, answers_in, finishing};
     ghost use Rattle.fdb_proxy.specs.Logging.{messages_by};
@@ -279,9 +280,9 @@ impl CommitCore {
         Ok(parts)
     }
 
-    /// Takes a resolver's verdicts. It takes no memory. Refused as `Failed`; as `Stale` unless the batch waits for just
-    /// these: they are on its entry, on just the places of the resolver's part, and the resolver's first. Then nothing
-    /// changes.
+    /// Takes a resolver's verdicts, with what it found. It takes no memory. Refused as `Failed`; as `Stale` unless the
+    /// batch waits for just these: they are on its entry, on just the places of the resolver's part, and the resolver's
+    /// first. Then nothing changes.
     pub fn verdict(&mut self, verdicts: Verdicts) -> Result<(), Refusal>
         ensures answers { AnswersExactly result (verdict_fault self.old.proxy verdicts)
             (λ _. self.new.proxy ≡ with_verdict self.old.proxy verdicts) }
@@ -295,34 +296,36 @@ impl CommitCore {
     }
 
     /// Decides the batch: a place commits where all resolvers that are asked about it say yes, is old where one says
-    /// so, and else conflicts. Answers what becomes of each place. Refused as `Failed`, as `WrongState` unless the
-    /// batch waits for verdicts, as `NotYet` with the least resolver that is asked about some place and whose verdicts
-    /// haven't come, and as `NoMemory`. Then nothing changes.
-    pub fn decide(&mut self) -> Result<Items<Outcome>, Refusal>
-        ensures answers { Answers result (decide_fault self.old.proxy) (λ outcomes.
-            (outcomes ≡ outcomes_in self.old.proxy) × (self.new.proxy ≡ deciding self.old.proxy)) }
+    /// so, and else conflicts. Answers what becomes of each place, and of each one in conflict the points that some
+    /// resolver found. It takes O(n) time for n places and verdicts, and for a place in conflict O(m log m) where more
+    /// than one resolver found some of its m ranges. Refused as `Failed`, as `WrongState` unless the batch waits for
+    /// verdicts, as `NotYet` with the least resolver that is asked about some place and whose verdicts haven't come,
+    /// and as `NoMemory`. Then nothing changes.
+    pub fn decide(&mut self) -> Result<Decision, Refusal>
+        ensures answers { Answers result (decide_fault self.old.proxy) (λ decision.
+            (decision ≡ decision_in self.old.proxy) × (self.new.proxy ≡ deciding self.old.proxy)) }
         ensures refused { OnErr result (self.new ≡ self.old) }
     {
-        let (outcomes, decided) = self.decided()?;
+        let (decision, decided) = self.decided()?;
         self.stage.enter(Stage::Logging(decided));
-        Ok(outcomes)
+        Ok(decision)
     }
 
-    /// Decides the batch, as `decide` does, and answers with what becomes of each place the message of the batch for
+    /// Decides the batch, as `decide` does, and answers with what it decided the message of the batch for
     /// each log, as `messages` does then. Refused as `decide` is, also where memory runs out for the messages. Then
     /// nothing changes. Once the tags are found, it takes O(n + l) time for the n places, verdicts and mutations of one
     /// tag of the batch and l logs, O(l t) more for each mutation of t tags, and O(b) more for operands of b bytes that
     /// are stamped.
-    pub fn decide_with_messages(&mut self) -> Result<(Items<Outcome>, Items<LogMsg>), Refusal>
+    pub fn decide_with_messages(&mut self) -> Result<(Decision, Items<LogMsg>), Refusal>
         ensures answers { Answers result (decide_fault self.old.proxy) (λ given.
-            (given.0 ≡ outcomes_in self.old.proxy) × (self.new.proxy ≡ deciding self.old.proxy)
+            (given.0 ≡ decision_in self.old.proxy) × (self.new.proxy ≡ deciding self.old.proxy)
             × (given.1 ≡ messages_of self.new.proxy)) }
         ensures refused { OnErr result (self.new ≡ self.old) }
     {
-        let (outcomes, decided) = self.decided()?;
+        let (decision, decided) = self.decided()?;
         let messages = self.messages_by(&decided)?;
         self.stage.enter(Stage::Logging(decided));
-        Ok((outcomes, messages))
+        Ok((decision, messages))
     }
 
     /// The message of the batch for each log: the mutations of the places that commit of which the log keeps a tag, by
@@ -396,10 +399,10 @@ impl CommitCore {
         self.is_failed = true;
     }
 
-    // What becomes of each place, and the batch once it is decided.
-    fn decided(&self) -> Result<(Items<Outcome>, Logging), Refusal>
+    // What is decided, and the batch once it is.
+    fn decided(&self) -> Result<(Decision, Logging), Refusal>
         ensures answers { Answers result (decide_fault self.now.proxy) (λ given.
-            (given.0 ≡ outcomes_in self.now.proxy)
+            (given.0 ≡ decision_in self.now.proxy)
             × (deciding self.now.proxy ≡ record self.now.proxy { stage = Stage.Logging given.1 })) }
         ensures each { IfOk result (λ given. length self.now.proxy.batch ≡ length given.1.answers) }
     {
@@ -412,6 +415,7 @@ impl CommitCore {
         }
         let places = self.requests.batch();
         let outcomes = batch.outcomes(self.alloc, places.len())?;
+        let conflicts = batch.conflicts(self.alloc, places.len())?;
         let decided = Logging::new(
             self.alloc,
             batch.position,
@@ -419,7 +423,13 @@ impl CommitCore {
             outcomes.as_slice(),
             self.logs,
         )?;
-        Ok((outcomes, decided))
+        Ok((
+            Decision {
+                outcomes,
+                conflicts,
+            },
+            decided,
+        ))
     }
 
     // The message for each log of the batch that is decided so.

@@ -1,7 +1,7 @@
 //! What the rule over the book says of resolvers' verdicts and of the messages for logs, for the proofs of the crates
 //! that use the proxies.
 ghost use Rattle.fdb_proxy.specs.CallExamples.{WorkedSubmitting, WorkedSealing, WorkedVerdict, WorkedDeciding};
-ghost use Rattle.fdb_proxy.specs.CallExamples.{WorkedLogged, WorkedFinishing};
+ghost use Rattle.fdb_proxy.specs.CallExamples.{WorkedConflicts, WorkedLogged, WorkedFinishing};
 ghost use Rattle.fdb_proxy.specs.ConfigExamples.{WorkedConfigs, WorkedNumbers, WorkedGrants, WorkedSpans};
 ghost use Rattle.fdb_proxy.specs.Examples.{WorkedSubmits, WorkedSeals, WorkedStages, WorkedTickets, WorkedVerdicts};
 ghost use Rattle.fdb_proxy.specs.Examples.{WorkedDecisions, WorkedLogging};
@@ -9,6 +9,8 @@ ghost use Rattle.fdb_proxy.specs.MessageLaws.{MessagesHoldTheCommitted};
 ghost use Rattle.fdb_proxy.specs.StampExamples.{WorkedStamps};
 ghost use Rattle.fdb_proxy.specs.VerdictLaws.{BatchesAreJudgedByTheRule, EntriesAreJudgedByTheRule, ItemsWhereAsked};
 ghost use Rattle.fdb_proxy.specs.VerdictLaws.{BatchesAreDecidedByTheRule, EntriesAreDecidedByTheRule};
+ghost use Rattle.fdb_proxy.specs.VerdictLaws.{BatchesAreFoundByTheRule, UnaskedFindNothing};
+ghost use Rattle.fdb_proxy.specs.VerdictLaws.{ConflictsAreJoinedByTheRule};
 
 /// A resolver that is sent its part of a batch, and has forgotten what lies below the horizon, says of the batch
 /// what the rule over the book says, and keeps the versions of which that rule speaks; so it does of an entry.
@@ -27,6 +29,15 @@ pub fn parts_have_items_where_their_resolver_is_asked()
 pub fn verdicts_of_the_asked_decide_as_the_rule()
     ensures batches { BatchesAreDecidedByTheRule }
     ensures entries { EntriesAreDecidedByTheRule }
+{}
+
+/// What a resolver that is sent its part of a batch finds of places in conflict is what the rule finds at it, and who
+/// is asked about no place finds nothing. Joined, it is of each place the conflict set by the rule, and of an old one
+/// nothing.
+pub fn what_resolvers_find_is_joined_to_the_conflict_sets()
+    ensures found { BatchesAreFoundByTheRule }
+    ensures unasked { UnaskedFindNothing }
+    ensures joined { ConflictsAreJoinedByTheRule }
 {}
 
 /// Once the rule's outcomes of an entry are decided, each log is sent just the mutations of the entry's committed
@@ -55,6 +66,7 @@ pub fn worked_calls()
     ensures sealing { WorkedSealing }
     ensures verdict { WorkedVerdict }
     ensures deciding { WorkedDeciding }
+    ensures conflicts { WorkedConflicts }
     ensures logged { WorkedLogged }
     ensures finishing { WorkedFinishing }
 {}

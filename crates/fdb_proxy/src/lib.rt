@@ -4,7 +4,9 @@
 mod bodies;
 mod commit_core;
 mod config;
+mod conflicts;
 mod deciding;
+mod decision;
 mod flags;
 mod grv_core;
 pub mod laws;
@@ -21,6 +23,7 @@ mod ticketing;
 pub use commit_core::CommitCore;
 pub use config::Config;
 pub use deciding::outcomes_of;
+pub use decision::Decision;
 pub use grv_core::GrvCore;
 pub use outcome::Outcome;
 pub use parting::parts_of;

@@ -1,26 +1,30 @@
 // A batch that waits for verdicts.
-ghost use Rattle.std.specs.Prelude.{◌≡◌, ◌<◌, ◌^◌, ◌&&◌, None, Some, List, ℕ, length, replicate, slice_get, IfOk};
-ghost use Rattle.std.specs.Prelude.{OnErr, IsTrue, if◌then◌else◌};
-ghost use Rattle.fdb_keys.specs.Answers.{AnswersExactly};
+ghost use Rattle.std.specs.Prelude.{◌≡◌, ◌<◌, ◌^◌, ◌&&◌, None, Some, List, [], ℕ, length, replicate, slice_get};
+ghost use Rattle.std.specs.Prelude.{slice_set, IfOk, OnErr, IsTrue, if◌then◌else◌};
+ghost use Rattle.fdb_keys.specs.Answers.{Answers, AnswersExactly};
 ghost use Rattle.fdb_keys.specs.declared.refusal.Refusal.TheVariants.{Stale};
 ghost use Rattle.fdb_resolver.specs.declared.verdict.Verdict.{Verdict};
+ghost use Rattle.fdb_proxy.specs.Conflicts.{conflicts_by};
 ghost use Rattle.fdb_proxy.specs.Deciding.{Said, outcomes_by};
 ghost use Rattle.fdb_proxy.specs.Resolving.{are_on, are_on_part, is_awaited, with_verdicts, asks, has_not_come};
 ghost use Rattle.fdb_proxy.specs.Resolving.{first_missing};
 
+use crate::conflicts::conflicts_of;
 use crate::deciding::outcomes_of;
 use crate::outcome::Outcome;
 use crate::position::Position;
-use fdb_keys::{Items, Refusal};
+use fdb_keys::{Items, RangeSet, Refusal};
 use fdb_resolver::{Item, Part, Verdict, Verdicts};
 use std::alloc::{AllocError, Global};
 
-/// A batch with its position, the part of each resolver, and what came of each one's verdicts.
+/// A batch with its position, the part of each resolver, what came of each one's verdicts, and what each one found of
+/// places in conflict.
 #[derive(Drop)]
 pub(crate) struct Resolving {
     pub(crate) position: Position,
     pub(crate) parts: Items<Part>,
     pub(crate) verdicts: Items<Option<Items<(u32, Verdict)>>>,
+    pub(crate) conflicts: Items<Items<(u32, RangeSet)>>,
 }
 
 impl Resolving {
@@ -31,16 +35,20 @@ impl Resolving {
         parts: Items<Part>,
     ) -> Result<Self, AllocError>
         ensures { IfOk result (λ batch.
-            batch ≡ record { position = position; parts = parts; verdicts = replicate (length parts) None }) }
+            batch ≡ record {
+              position = position;
+              parts = parts;
+              verdicts = replicate (length parts) None;
+              conflicts = replicate (length parts) [];
+            }) }
     {
-        let mut verdicts = Items::new(alloc);
-        for _part in parts.as_slice() {
-            verdicts.push(None)?;
-        }
+        let verdicts = no_verdicts(alloc, parts.len())?;
+        let conflicts = no_conflicts(alloc, parts.len())?;
         Ok(Resolving {
             position,
             parts,
             verdicts,
+            conflicts,
         })
     }
 
@@ -68,7 +76,13 @@ impl Resolving {
         ensures { self.new ≡ with_verdicts self.old verdicts }
     {
         let resolver = verdicts.resolver as usize;
-        self.verdicts.set(resolver, Some(verdicts.answers));
+        let Verdicts {
+            answers,
+            conflicts,
+            ..
+        } = verdicts;
+        self.verdicts.set(resolver, Some(answers));
+        put(&mut self.conflicts, resolver, conflicts);
     }
 
     /// The least resolver that is asked about some place and whose verdicts haven't come.
@@ -92,6 +106,51 @@ impl Resolving {
             count,
         )?;
         Ok(outcomes)
+    }
+
+    /// The conflict set of each of as many places, by what the resolvers found; no place at all where none found any.
+    pub(crate) fn conflicts(&self, alloc: Global, count: usize) -> Result<Items<RangeSet>, Refusal>
+        ensures { Answers result None (λ conflicts. conflicts ≡ conflicts_by self.now.conflicts count) }
+    {
+        conflicts_of(alloc, self.conflicts.as_slice(), count)
+    }
+}
+
+// Of so many resolvers no verdicts came.
+fn no_verdicts(
+    alloc: Global,
+    count: usize,
+) -> Result<Items<Option<Items<(u32, Verdict)>>>, AllocError>
+    ensures { IfOk result (λ verdicts. verdicts ≡ replicate count None) }
+{
+    let mut verdicts = Items::new(alloc);
+    for _resolver in 0..count {
+        verdicts.push(None)?;
+    }
+    Ok(verdicts)
+}
+
+// And none found anything.
+fn no_conflicts(alloc: Global, count: usize) -> Result<Items<Items<(u32, RangeSet)>>, AllocError>
+    ensures { IfOk result (λ conflicts. conflicts ≡ replicate count []) }
+{
+    let mut conflicts = Items::new(alloc);
+    for _resolver in 0..count {
+        conflicts.push(Items::new(alloc))?;
+    }
+    Ok(conflicts)
+}
+
+// Puts what the resolver found, if there is such a resolver.
+fn put(
+    conflicts: &mut Items<Items<(u32, RangeSet)>>,
+    resolver: usize,
+    found: Items<(u32, RangeSet)>,
+)
+    ensures { conflicts.new ≡ slice_set conflicts.old resolver found }
+{
+    if resolver < conflicts.len() {
+        conflicts.set(resolver, found);
     }
 }
 

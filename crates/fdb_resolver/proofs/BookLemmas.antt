@@ -6,12 +6,12 @@ use Rattle.fdb_keys.specs.Points.{Point}
 use Rattle.fdb_txn.specs.book.Book.{Place}
 use Rattle.fdb_txn.specs.rules.Admission.{is_fresh, admits}
 use Rattle.fdb_txn.specs.rules.Resolvers.{with_place, IsAdmittedBy}
-use Rattle.fdb_txn.proofs.Exports.{state_decides, state_takes_place}
+use Rattle.fdb_txn.proofs.Exports.{state_decides, state_finds_conflicts, state_takes_place}
 use Rattle.fdb_resolver.specs.declared.part.Item.{Item}
 use Rattle.fdb_resolver.specs.declared.verdict.Verdict.{Verdict}
 use Rattle.fdb_resolver.specs.declared.verdict.Verdict.TheVariants.{Yes, Conflict, Old}
 use Rattle.fdb_resolver.specs.Rule.{is_old, IsVerdict, versions_with}
-use Rattle.fdb_resolver.specs.RuleLaws.{IsItemOf, VerdictsAreByTheBook, PlacesKeepState}
+use Rattle.fdb_resolver.specs.RuleLaws.{IsItemOf, VerdictsAreByTheBook, PlacesKeepState, FoundByTheBook}
 
 -- a place is fresh just where its item isn't old
 fresh-item : (splits : List Point) (i : ℕ) (place : Place) (item : Item) → IsItemOf splits i place item
@@ -80,3 +80,8 @@ places_keep_state splits i place earlier floor f item verdict history state reac
     ap (λ (n : ℕ). nat_lt v n) (versions-with_place splits i place f item verdict of_place x)
     ∙ ap (λ (admitted : Bool). nat_lt v (with_place splits i admitted place f x)) yes
     ∙ state_takes_place splits i place earlier floor f history state x v reached
+
+pub found_by_the_book : FoundByTheBook
+found_by_the_book splits i place earlier floor f item history state reached_back of_place fresh x =
+    ap₂ (λ (is_read : Bool) (read : ℕ). is_read && nat_lt read (f x)) (of_place.reads x) of_place.read
+    ∙ state_finds_conflicts splits i place earlier floor f history state reached_back fresh x

@@ -9,7 +9,7 @@ use Rattle.fdb_txn.specs.rules.Resolvers.{AgreeFrom}
 use Rattle.fdb_txn.specs.Turn.{turn_fault}
 use Rattle.fdb_resolver.specs.declared.part.Part.{Part}
 use Rattle.fdb_resolver.specs.declared.verdict.Verdicts.{Verdicts}
-use Rattle.fdb_resolver.specs.Rule.{AreVerdicts, versions_after}
+use Rattle.fdb_resolver.specs.Rule.{AreVerdicts, AreConflicts, versions_after}
 
 -- its number, the version of the last entry that it took, whether memory ran out, and the versions at which
 -- it admitted writes
@@ -33,11 +33,12 @@ pub record IsNew (number : ℕ) (core : Resolver) : Type 0 where
   pub works : core.is_failed ≡ false
   pub versions : (x : Point) → version_at core.versions x ≡ 0
 
--- its verdicts on a part, by the versions that it kept
+-- its verdicts on a part, by the versions that it kept, and what it found newer of the places in conflict
 pub record IsAnswer (core : Resolver) (part : Part) (verdicts : Verdicts) : Type 0 where
   pub resolver : verdicts.resolver ≡ core.index
   pub index : verdicts.index ≡ part.index
   pub answers : AreVerdicts part.version part.horizon (version_at core.versions) part.items verdicts.answers
+  pub conflicts : AreConflicts part.version (version_at core.versions) part.items verdicts.answers verdicts.conflicts
 
 -- What it keeps after a part: the versions after all places, with those up to the part's horizon forgotten.
 -- From the horizon on, what it keeps answers as the versions after all places do.

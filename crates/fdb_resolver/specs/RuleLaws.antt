@@ -1,10 +1,11 @@
 -- What the rule says of the places of a book.
-use Rattle.std.specs.Prelude.{◌≡◌, ◌≤◌, ℕ, suc, List, ◌∷◌, length, if◌then◌else◌}
+use Rattle.std.specs.Prelude.{◌≡◌, ◌≤◌, ◌&&◌, ℕ, suc, true, nat_lt, List, ◌∷◌, length, if◌then◌else◌}
 use Rattle.fdb_keys.specs.Points.{Point}
 use Rattle.fdb_keys.specs.Ranges.{in_set}
 use Rattle.fdb_txn.specs.book.Book.{Place}
 use Rattle.fdb_txn.specs.rules.Admission.{has_points, is_fresh, admits}
 use Rattle.fdb_txn.specs.book.History.{IsHistory}
+use Rattle.fdb_txn.specs.rules.Conflicts.{in_conflict_of}
 use Rattle.fdb_txn.specs.rules.Resolvers.{part_reads, part_writes, IsStateOf}
 use Rattle.fdb_resolver.specs.declared.part.Item.{Item}
 use Rattle.fdb_resolver.specs.declared.verdict.Verdict.{Verdict}
@@ -43,3 +44,13 @@ PlacesKeepState =
     → floor ≤ place.horizon
     → IsItemOf splits i place item → IsVerdict place.horizon f item verdict
     → IsStateOf splits i (place ∷ earlier) floor (versions_with place.version item verdict f)
+
+-- What it finds newer of a place that isn't old is what it finds of the place's conflict set.
+abbrev pub FoundByTheBook : Type 0
+FoundByTheBook =
+    (splits : List Point) (i : ℕ) (place : Place) (earlier : List Place) (floor : ℕ) (f : Point → ℕ) (item : Item)
+    → IsHistory (suc (length splits)) (place ∷ earlier) → IsStateOf splits i earlier floor f
+    → floor ≤ place.horizon
+    → IsItemOf splits i place item → is_fresh place ≡ true
+    → (x : Point)
+    → (in_set item.reads x && nat_lt item.read_version (f x)) ≡ in_conflict_of splits i earlier place x

@@ -56,7 +56,10 @@ impl ResolverCore {
 
     /// Takes the resolver's part of an entry, and says of each place, as the places before it left the
     /// versions, whether it is old, conflicts, or may commit. It is old where it has reads, and read below the
-    /// part's horizon. Places that may commit give the points that they write the part's version. Refused as
+    /// part's horizon. Of a place that conflicts it hands over the points of the part's reads that have a version above
+    /// the read version. Places that may commit give the points that they write the part's version. For n pieces it
+    /// takes O(log n) for each range, and O(1) for each piece that a range meets, up to the first newer one; of a place
+    /// that conflicts it goes over its pieces once more. Refused as
     /// `Unknown` where the part is another resolver's, as `Failed` once memory ran out in an earlier call, as
     /// `Stale` where the entry before the part's lies before the last one taken, as `NotYet` with that entry's
     /// version where it hasn't been taken, and as `NoMemory`. The resolver stays as it was where it is refused,
@@ -80,13 +83,14 @@ impl ResolverCore {
             part.items.as_slice(),
         );
         match judged {
-            Ok(answers) => {
+            Ok((answers, conflicts)) => {
                 self.versions.expire(part.horizon);
                 self.last = part.version;
                 Ok(Verdicts {
                     resolver: self.index,
                     index: part.index,
                     answers,
+                    conflicts,
                 })
             }
             Err(why) => {

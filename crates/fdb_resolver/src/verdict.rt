@@ -1,4 +1,4 @@
-use fdb_keys::Items;
+use fdb_keys::{Items, RangeSet};
 
 /// What a resolver says of a transaction.
 #[derive(Clone, Copy, PartialEq, Eq)]
@@ -20,4 +20,7 @@ pub struct Verdicts {
     pub index: u32,
     /// For each place that it was asked about, in order, the place's number and the verdict.
     pub answers: Items<(u32, Verdict)>,
+    /// For each place in conflict, in order, the place's number and the points that it read and that were written since
+    /// its read version, as far as the resolver knows. A copy of a set takes O(1) time.
+    pub conflicts: Items<(u32, RangeSet)>,
 }

@@ -1,7 +1,7 @@
 -- The batch of an entry of a book, while its commit proxy learns the ticket, hears verdicts, decides and hears logs.
-use Rattle.std.proofs.Common.{◌≡◌, ◌∙◌, refl, sym, ap, ap₂, subst, ⊎_elim, ℕ, zero, suc, ◌<◌, Bool, true, false, ◌&&◌}
-use Rattle.std.proofs.Common.{List, [], ◌∷◌, ◌++◌, length, take, replicate, Option, Some, None, slice_get, slice_set}
-use Rattle.std.proofs.Common.{if◌then◌else◌, ◌≤◌, arith}
+use Rattle.std.proofs.Common.{◌≡◌, ◌∙◌, refl, sym, ap, ap₂, subst, inl, inr, ⊎_elim, ℕ, zero, suc, ◌<◌, Bool, true}
+use Rattle.std.proofs.Common.{false, ◌&&◌, List, [], ◌∷◌, ◌++◌, length, take, replicate, Option, Some, None}
+use Rattle.std.proofs.Common.{slice_get, slice_set, if◌then◌else◌, ◌≤◌, arith}
 use Rattle.std.specs.Prelude.{nat_le}
 use Rattle.std.specs.List.{AllByRecursion, list_any}
 use Rattle.std.proofs.lemmas.Bool.{cases_eq, lt-leb}
@@ -10,12 +10,14 @@ use Rattle.std.proofs.lemmas.Option.{same_Some, slice_get_within}
 use Rattle.fdb_keys.specs.Points.{Point}
 use Rattle.fdb_txn.specs.declared.entry.Entry.{Entry}
 use Rattle.fdb_txn.specs.book.Book.{Seen, head_of, add_entry, seen_of, seen_before}
+use Rattle.fdb_txn.specs.book.Places.{place_of}
 use Rattle.fdb_txn.specs.book.History.{AreEntries, IsHistory}
 use Rattle.fdb_txn.specs.book.Transactions.{Transaction}
 use Rattle.fdb_txn.proofs.Exports.{places_are_history, seen_of-push}
 use Rattle.fdb_owners.specs.OwnersLaws.{AgreesWith}
 use Rattle.fdb_resolver.specs.declared.part.Part.{Part}
 use Rattle.fdb_resolver.specs.declared.verdict.Verdicts.{Verdicts}
+use Rattle.fdb_resolver.specs.Rule.{Found, finds}
 use Rattle.fdb_sequencer.specs.declared.ticket.Ticket.{Ticket}
 use Rattle.fdb_sequencer.specs.TicketLaws.{GoToResolvers, MayBeLearnt}
 use Rattle.fdb_sequencer.specs.declared.dated.Dated.{Dated}
@@ -29,15 +31,17 @@ use Rattle.fdb_proxy.specs.declared.resolving.Resolving.{Resolving as Unheard}
 use Rattle.fdb_proxy.specs.declared.stage.Stage.TheVariants as core
 use Rattle.fdb_proxy.specs.CommitProxies.{CommitProxy as Core, IsTicketFor, HasLearntTicket, learn_fault, is_sealed}
 use Rattle.fdb_proxy.specs.CommitProxies.{moves_with, position_of}
+use Rattle.fdb_proxy.specs.Conflicts.{conflicts_by}
 use Rattle.fdb_proxy.specs.Deciding.{Said, outcomes_by}
 use Rattle.fdb_proxy.specs.Logging.{answers_by, messages_by, with_acknowledgement}
 use Rattle.fdb_proxy.specs.Parting.{AreParts}
 use Rattle.fdb_proxy.specs.Resolving.{with_verdicts, has_not_come, asks, first_missing}
-use Rattle.fdb_proxy.specs.Verdicts.{moves_through, verdicts_on, is_needed, outcomes_on}
-use Rattle.fdb_proxy.specs.VerdictLaws.{AreByTheRule}
-use Rattle.fdb_proxy.proofs.Exports.{messages_hold_the_committed, entries_are_decided_by_the_rule, items_where_asked}
+use Rattle.fdb_proxy.specs.Verdicts.{moves_through, verdicts_on, is_needed, outcomes_on, found_at}
+use Rattle.fdb_proxy.specs.VerdictLaws.{AreByTheRule, AreFoundByTheRule}
+use Rattle.fdb_proxy.proofs.Exports.{conflicts_are_joined_by_the_rule, messages_hold_the_committed}
+use Rattle.fdb_proxy.proofs.Exports.{entries_are_decided_by_the_rule, items_where_asked, unasked_find_nothing}
 use Rattle.fdb_roles.specs.ProxyStages.{IsStageAt, IsCommitProxyAt, IsBatchOf, IsResolving, IsLogging, IsSaid}
-use Rattle.fdb_roles.specs.ProxyStages.{position_in}
+use Rattle.fdb_roles.specs.ProxyStages.{AreFindsOn, AreConflictsOn, position_in}
 use Rattle.fdb_roles.specs.Entries.{dated_moves, entry_of}
 use Rattle.fdb_roles.proofs.AllLemmas.{within-item}
 use Rattle.fdb_roles.proofs.ListLemmas.{last-at, set-here, set-other}
@@ -74,6 +78,13 @@ none-came : (n r : ℕ) (said : Said) → slice_get (replicate n None) r ≡ Som
 none-came zero r said there = cc
 none-came (suc n) zero said there = cc
 none-came (suc n) (suc r) said there = none-came n r said there
+
+-- and nothing was found by anyone
+nothing-found : (n r : ℕ) (of : Found) → slice_get (replicate n []) r ≡ Some of
+    → (slice_get (replicate {A = Option Said} n None) r ≡ Some None) × (of ≡ [])
+nothing-found zero r of there = cc
+nothing-found (suc n) zero of there = (refl, sym (same_Some [] of there))
+nothing-found (suc n) (suc r) of there = nothing-found n r of there
 
 -- What stands once a proxy learnt the ticket of the entry that comes after these: it has the entry too, its batch waits
 -- for verdicts, and it has the entry's parts.
@@ -130,6 +141,12 @@ module _ (config : Config) (front before : List Entry) (old new : Core) (ticket 
         ∙ length-replicate (length learnt.resolving.parts) None ∙ parts-learnt.count;
     came = λ r said there. absurd (none-came (length learnt.resolving.parts) r said
         (sym (ap (λ (of : Unheard). slice_get of.verdicts r) learnt.without_verdicts.rest) ∙ there));
+    found_count = ap (λ (r : Unheard). length r.conflicts) learnt.without_verdicts.rest
+        ∙ length-replicate (length learnt.resolving.parts) [] ∙ parts-learnt.count;
+    found = λ r of there.
+        let none = nothing-found (length learnt.resolving.parts) r of
+        (sym (ap (λ (it : Unheard). slice_get it.conflicts r) learnt.without_verdicts.rest) ∙ there) in
+        inl (ap (λ (it : Unheard). slice_get it.verdicts r) learnt.without_verdicts.rest ∙ none.0, none.1);
   }
 
   stage-learnt : new.stage ≡ core.Resolving learnt.resolving
@@ -216,10 +233,32 @@ module _ (splits : List Point) (book : List Entry) (i : ℕ) (entry : Entry) (th
             (λ differs. is.came r one
             (sym (set-other batch.verdicts verdicts.resolver r (Some verdicts.answers) differs) ∙ came))
             (cases_eq r verdicts.resolver);
+        found_count = length-set batch.conflicts verdicts.resolver verdicts.conflicts ∙ is.found_count;
+        found = λ r of there. ⊎_elim
+            (λ equal. inr (found-here r of equal there))
+            (λ differs. ⊎_elim
+            (λ silent. inl
+            (set-other batch.verdicts verdicts.resolver r (Some verdicts.answers) differs ∙ silent.0, silent.1))
+            (λ found. inr found)
+            (is.found r of (sym (set-other batch.conflicts verdicts.resolver r verdicts.conflicts differs) ∙ there)))
+            (cases_eq r verdicts.resolver);
       }
     where
       entry_is : other ≡ entry
       entry_is = same_Some other entry (sym said.there ∙ ap (slice_get book) (sym same) ∙ there)
+
+      found-here : (r : ℕ) (of : Found) → r ≡ verdicts.resolver
+          → slice_get (slice_set batch.conflicts verdicts.resolver verdicts.conflicts) r ≡ Some of
+          → AreFindsOn splits r before entry of
+      found-here r of equal at =
+          let exists = said.exists in
+          let count = is.found_count in
+          let here : verdicts.conflicts ≡ of = same_Some verdicts.conflicts of
+          (sym (ap (slice_get (slice_set batch.conflicts verdicts.resolver verdicts.conflicts)) equal
+          ∙ set-here batch.conflicts verdicts.resolver verdicts.conflicts (omega (arith, exists, count))) ∙ at) in
+          λ p x. sym (ap (λ (found : Found). finds p found x) here) ∙ said.found p x
+          ∙ (λ k. found_at splits (sym equal k)
+          (place_of (seen_before book (sym same k)) p (Some (entry_is k))) x)
 
   -- a part asks where its resolver is asked about some place
   pub asked : (r : ℕ) (part : Part) → slice_get batch.parts r ≡ Some part → asks part ≡ is_needed splits r before entry
@@ -255,6 +294,22 @@ module _ (splits : List Point) (book : List Entry) (i : ℕ) (entry : Entry) (th
     pub outcomes-decided : outcomes ≡ outcomes_on splits before entry
     outcomes-decided = rw (its.version, its.places)
         (entries_are_decided_by_the_rule splits before entry batch.verdicts (history entries) (by-the-rule none))
+
+    -- what each resolver found is by the rule, also of those who aren't asked
+    finds-by-the-rule : AreFoundByTheRule splits (head_of before entry) entry.batch before.places batch.conflicts
+    finds-by-the-rule = record {
+      count = is.found_count;
+      each = λ r of there. ⊎_elim
+          (λ silent. subst (λ (found : Found). AreFindsOn splits r before entry found) (sym silent.1)
+          (unasked_find_nothing splits (head_of before entry) r entry.batch before.places (history entries)
+          ((by-the-rule none).silent r silent.0)))
+          (λ found. found)
+          (is.found r of there);
+    }
+
+    pub conflicts-decided : AreConflictsOn splits before entry (conflicts_by batch.conflicts (length transactions))
+    conflicts-decided = rw its.places
+        (conflicts_are_joined_by_the_rule splits before entry batch.conflicts (history entries) finds-by-the-rule)
 
     pub answers-decided : answers_by transactions outcomes ≡ answers_by entry.batch (outcomes_on splits before entry)
     answers-decided = ap₂ answers_by its.places outcomes-decided

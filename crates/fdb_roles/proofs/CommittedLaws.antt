@@ -8,7 +8,7 @@ use Rattle.fdb_mutations.specs.Maps.{Map}
 use Rattle.fdb_txn.specs.declared.entry.Entry.{Entry}
 use Rattle.fdb_txn.specs.book.Transactions.{Transaction}
 use Rattle.fdb_txn.specs.book.Book.{Place, Seen, seen_of}
-use Rattle.fdb_txn.specs.book.History.{Follows, IsHistory}
+use Rattle.fdb_txn.specs.book.History.{Follows, IsBook, IsHistory, IsSealed}
 use Rattle.fdb_txn.specs.book.Places.{place_of}
 use Rattle.fdb_txn.specs.rules.Admission.{is_fresh, no_conflict, committed}
 use Rattle.fdb_txn.specs.rules.SerialMap.{serial_map, serial_map_at}
@@ -97,7 +97,7 @@ answered-before splits place earlier transcript history same commits answered =
         ∙ in_read_ranges read ops x
 
 -- later places of a history have at least the version
-in-newer : (P : Place → Type 0) (newer : List Place) (place : Place) (earlier : List Place)
+pub in-newer : (P : Place → Type 0) (newer : List Place) (place : Place) (earlier : List Place)
     → AllByRecursion P (newer ++ place ∷ earlier) → P place
 in-newer P [] place earlier all = all.0
 in-newer P (first ∷ newer) place earlier all = in-newer P newer place earlier all.1
@@ -111,48 +111,64 @@ newer-later resolvers (first ∷ newer) place earlier history = (
   newer-later resolvers newer place earlier history.2,
 )
 
+-- What is answered as on the map at the read version, of all places of a history, is answered as on the map before its
+-- place, where that is committed.
+pub answered-at : (splits : List Point) (all newer : List Place) (place : Place) (earlier : List Place)
+    (transcript : Transcript)
+    → IsHistory (suc (length splits)) all → all ≡ newer ++ place ∷ earlier
+    → place.transaction ≡ commit_request_of transcript → committed splits earlier place ≡ true
+    → AnsweredOn (serial_map_at splits transcript.read_version all) transcript
+    → AnsweredOn (serial_map splits earlier) transcript
+answered-at splits all newer place earlier transcript history is same commits answered =
+    answered-before splits place earlier transcript here same commits
+    (subst (λ (m : Map). AnsweredOn m transcript)
+    (map-extends splits transcript.read_version place.version all (place ∷ earlier)
+    (subst (λ (v : ℕ). v < place.version) reads_at here.0.0)
+    (newer, is, newer-later (suc (length splits)) newer place earlier whole)
+    ∙ ap (λ (v : ℕ). serial_map_at splits v (place ∷ earlier)) (sym reads_at)) answered)
+  where
+    whole : IsHistory (suc (length splits)) (newer ++ place ∷ earlier)
+    whole = subst (IsHistory (suc (length splits))) is history
+
+    here : IsHistory (suc (length splits)) (place ∷ earlier)
+    here = history-earlier (suc (length splits)) newer (place ∷ earlier) whole
+
+    reads_at : place.transaction.read ≡ transcript.read_version
+    reads_at = ap (λ (t : Transaction). t.read) same
+
 entry-of : (before : Seen) (p : ℕ) (next : Option Entry) (there : Place × List Place)
     → place_of before p next ≡ Some there
     → (entry : Entry) × (next ≡ Some entry)
 entry-of before p None there is = cc
 entry-of before p (Some entry) there is = (entry, refl)
 
+-- the places of a book of sealed transactions are a history
+pub history-of : (splits : List Point) (book : List Entry) → IsBook (suc (length splits)) book
+    → AllByRecursion IsSealed book → IsHistory (suc (length splits)) (seen_of book).places
+history-of splits book book_is each_sealed = places_are_history (suc (length splits)) book
+    ((books_are_entries (suc (length splits)) book).0 (book_is, each_sealed)).0
+
 module _ (splits : List Point) (book : List Entry) (n p : ℕ) (there : Place × List Place)
     (place : IsPlaceOf splits book n p there) where
   history : IsHistory (suc (length splits)) (seen_of book).places
-  history = places_are_history (suc (length splits)) book
-      ((books_are_entries (suc (length splits)) book).0 (place.book_is, place.each_sealed)).0
+  history = history-of splits book place.book_is place.each_sealed
 
   found : (newer : List Place) × ((seen_of book).places ≡ newer ++ there.0 ∷ there.1)
   found =
       let entry = entry-of (seen_of (take n book)) p (slice_get book n) there place.there_is in
       (places_are_found_in_the_book book n p entry.0 there.0 there.1 entry.1 place.there_is).2
 
-  whole : IsHistory (suc (length splits)) (found.0 ++ there.0 ∷ there.1)
-  whole = subst (IsHistory (suc (length splits))) found.1 history
-
   history-there : IsHistory (suc (length splits)) (there.0 ∷ there.1)
-  history-there = history-earlier (suc (length splits)) found.0 (there.0 ∷ there.1) whole
-
-  -- below the place's version the map is that of the places through it
-  map-there : (v : ℕ) → v < there.0.version
-      → serial_map_at splits v (seen_of book).places ≡ serial_map_at splits v (there.0 ∷ there.1)
-  map-there v below = map-extends splits v there.0.version (seen_of book).places (there.0 ∷ there.1) below
-      (found.0, found.1, newer-later (suc (length splits)) found.0 there.0 there.1 whole)
+  history-there = history-earlier (suc (length splits)) found.0 (there.0 ∷ there.1)
+      (subst (IsHistory (suc (length splits))) found.1 history)
 
 pub reads_of_the_committed_stand : ReadsOfTheCommittedStand
 reads_of_the_committed_stand splits book n p there transcript place same commits answered =
-    answered-before splits there.0 there.1 transcript here same commits
-    (subst (λ (m : Map). AnsweredOn m transcript)
-    (map-there splits book n p there place transcript.read_version
-    (subst (λ (v : ℕ). v < there.0.version) reads_at here.0.0)
-    ∙ ap (λ (v : ℕ). serial_map_at splits v (there.0 ∷ there.1)) (sym reads_at)) answered)
+    answered-at splits (seen_of book).places at.0 there.0 there.1 transcript
+    (history splits book n p there place) at.1 same commits answered
   where
-    here : IsHistory (suc (length splits)) (there.0 ∷ there.1)
-    here = history-there splits book n p there place
-
-    reads_at : there.0.transaction.read ≡ transcript.read_version
-    reads_at = ap (λ (t : Transaction). t.read) same
+    at : (newer : List Place) × ((seen_of book).places ≡ newer ++ there.0 ∷ there.1)
+    at = found splits book n p there place
 
 -- a resolver that says yes of a place admits it
 yes-admits : (fresh free : Bool)

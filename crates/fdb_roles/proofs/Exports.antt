@@ -1,8 +1,8 @@
 -- The lemmas that proofs of other crates cite, and no others.
 pub use Rattle.fdb_roles.proofs.AllLemmas.{all-at, all-both, all-drop, all-map, all-next, all-push, all-replicate}
 pub use Rattle.fdb_roles.proofs.AllLemmas.{all-set, all-take, contains-item, item-contained, within-item}
-pub use Rattle.fdb_roles.proofs.BatchStages.{IsLearnt, asked, is-learnt, messages-decided, outcomes-decided}
-pub use Rattle.fdb_roles.proofs.BatchStages.{ticket-fits, ticket-learns}
+pub use Rattle.fdb_roles.proofs.BatchStages.{IsLearnt, asked, conflicts-decided, is-learnt, messages-decided}
+pub use Rattle.fdb_roles.proofs.BatchStages.{outcomes-decided, ticket-fits, ticket-learns}
 pub use Rattle.fdb_roles.proofs.BodyLemmas.{length-answers, length-outcomes_on}
 pub use Rattle.fdb_roles.proofs.BookLemmas.{below-last, entries-take, last-above, last-push, last-risen}
 pub use Rattle.fdb_roles.proofs.BookLemmas.{horizon-within, last_horizon-push, rise-lower, rise-take}

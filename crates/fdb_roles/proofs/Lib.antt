@@ -7,6 +7,8 @@ mod CommittedLaws
 mod ExtendsLemmas
 mod FaultLemmas
 mod FrontLaws
+mod LayerExamplesLemmas
+mod LayerLaws
 mod ListLemmas
 mod LogLemmas
 mod MoveLemmas

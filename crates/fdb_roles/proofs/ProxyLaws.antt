@@ -26,8 +26,9 @@ use Rattle.fdb_proxy.specs.declared.stage.Stage.{Stage as CoreStage}
 use Rattle.fdb_proxy.specs.declared.stage.Stage.TheVariants as core
 use Rattle.fdb_proxy.specs.CommitProxies.{CommitProxy, IsTicketFor, HasLearntTicket, is_sealed, sealing, unsealing}
 use Rattle.fdb_proxy.specs.CommitProxies.{learn_fault, position_of, without_verdicts, parts_in, waiting_for}
-use Rattle.fdb_proxy.specs.CommitProxies.{with_verdict, outcomes_in, deciding, messages_fault, messages_of, with_logged}
-use Rattle.fdb_proxy.specs.CommitProxies.{answers_in}
+use Rattle.fdb_proxy.specs.CommitProxies.{with_verdict, outcomes_in, conflicts_in, deciding, messages_fault}
+use Rattle.fdb_proxy.specs.CommitProxies.{messages_of, with_logged, answers_in}
+use Rattle.fdb_proxy.specs.Conflicts.{conflicts_by}
 use Rattle.fdb_proxy.specs.Deciding.{outcomes_by}
 use Rattle.fdb_proxy.specs.Logging.{answers_by, messages_by, with_acknowledgement}
 use Rattle.fdb_proxy.specs.Parting.{AreParts}
@@ -38,12 +39,13 @@ use Rattle.fdb_roles.specs.ProxyLaws.{IsLastEntry, NewProxiesHaveNoEntry, Batche
 use Rattle.fdb_roles.specs.ProxyLaws.{ProxiesLearnTheirTickets, ProxiesHearVerdicts, ProxiesDecideByTheRule}
 use Rattle.fdb_roles.specs.ProxyLaws.{MessagesAreOfTheEntry, ProxiesHearLogs, ProxiesAnswerByTheRule}
 use Rattle.fdb_roles.specs.ProxyLaws.{AnswersAreByTheRule}
-use Rattle.fdb_roles.specs.ProxyStages.{IsStageAt, IsCommitProxyAt, position_in}
+use Rattle.fdb_roles.specs.ProxyStages.{AreConflictsOn, IsStageAt, IsCommitProxyAt, position_in}
 use Rattle.fdb_roles.specs.Entries.{dated_moves, entry_of}
 use Rattle.fdb_roles.proofs.BodyLemmas.{length-answers, length-outcomes_on}
 use Rattle.fdb_roles.proofs.PlaceLemmas.{place-by-rule}
 use Rattle.fdb_roles.proofs.BatchStages.{IsLearnt, is-learnt, ticket-fits, ticket-learns, resolving-heard}
-use Rattle.fdb_roles.proofs.BatchStages.{outcomes-decided, answers-decided, logging-heard, messages-decided}
+use Rattle.fdb_roles.proofs.BatchStages.{outcomes-decided, conflicts-decided, answers-decided, logging-heard}
+use Rattle.fdb_roles.proofs.BatchStages.{messages-decided}
 use Rattle.fdb_roles.proofs.BookLemmas.{rise-lower}
 use Rattle.fdb_roles.proofs.MoveLemmas.{dated_moves-append, entries-behind, ticket-after}
 use Rattle.fdb_roles.proofs.ResolverLemmas.{entries-after}
@@ -260,6 +262,7 @@ proxies_decide_by_the_rule config front i entry proxy at entries last no_fault =
     by_stage : (stage : CoreStage) → proxy.stage ≡ stage → IsStageAt config front proxy.batch stage
         → (outcomes_in proxy ≡ outcomes_on config.resolver_splits (seen_before front i) entry)
         × (messages_fault (deciding proxy) ≡ None) × IsCommitProxyAt config front (deciding proxy)
+        × AreConflictsOn config.resolver_splits (seen_before front i) entry (conflicts_in proxy)
     by_stage core.Idle is here = let wrong = rw (at.works, is) at no_fault in cc
     by_stage core.Sealed is here = let wrong = rw (at.works, is) at no_fault in cc
     by_stage core.Entered is here = absurd here
@@ -291,6 +294,11 @@ proxies_decide_by_the_rule config front i entry proxy at entries last no_fault =
                   count = length-replicate proxy.logs false ∙ at.logs;
                 },
               )),
+          rw is (of-last front i entry last
+              (λ (n : ℕ) (e : Entry). AreConflictsOn config.resolver_splits (seen_before front n) e
+              (conflicts_by batch.conflicts (length proxy.batch))) here.0 here.1 here.2 here.3.there
+              (conflicts-decided config.resolver_splits front here.0 here.1 here.3.there batch here.4 proxy.batch here.3
+              entries none)),
         )
 
 pub messages_are_of_the_entry : MessagesAreOfTheEntry

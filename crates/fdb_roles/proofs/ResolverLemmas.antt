@@ -12,8 +12,8 @@ use Rattle.fdb_interval.specs.Versions.{version_at}
 use Rattle.fdb_txn.specs.declared.entry.Entry.{Entry}
 use Rattle.fdb_txn.specs.declared.entry.Move.{Move}
 use Rattle.fdb_txn.specs.book.Transactions.{Transaction, NamesWrites}
-use Rattle.fdb_txn.specs.book.Book.{DatedMove, Head, Place, Seen, head_at, add_entry, seen_of, last_version}
-use Rattle.fdb_txn.specs.book.Book.{last_horizon}
+use Rattle.fdb_txn.specs.book.Book.{DatedMove, Head, Place, Seen, head_at, add_entry, head_of, seen_of}
+use Rattle.fdb_txn.specs.book.Book.{last_horizon, last_version}
 use Rattle.fdb_txn.specs.book.History.{IsHistory, AreEntries}
 use Rattle.fdb_txn.specs.rules.Admission.{has_points}
 use Rattle.fdb_txn.specs.rules.Resolvers.{AgreeFrom, IsStateOf}
@@ -29,11 +29,11 @@ use Rattle.fdb_proxy.specs.declared.position.Position.{Position}
 use Rattle.fdb_proxy.specs.Deciding.{Said}
 use Rattle.fdb_proxy.specs.Parting.{AreItems, IsPartOf, AreParts}
 use Rattle.fdb_proxy.specs.Verdicts.{moves_through, verdicts_on}
-use Rattle.fdb_proxy.proofs.Exports.{entries_are_judged_by_the_rule}
+use Rattle.fdb_proxy.proofs.Exports.{batches_are_found_by_the_rule, entries_are_judged_by_the_rule}
 use Rattle.fdb_roles.specs.Judging.{MayFollow, HasSaid}
 use Rattle.fdb_roles.specs.AtBook.{IsResolverAt}
 use Rattle.fdb_roles.proofs.AllLemmas.{within-item}
-use Rattle.fdb_roles.specs.ProxyStages.{position_in}
+use Rattle.fdb_roles.specs.ProxyStages.{AreFindsOn, position_in}
 use Rattle.fdb_roles.proofs.BookLemmas.{last-push, last_horizon-push}
 
 -- what is sent of a batch from place p on
@@ -150,9 +150,10 @@ module _ (splits : List Point) (before : List Entry) (entry : Entry)
         ∙ cond-false _ _ _ (le-ltb old.last part.prev (omega (arith, same)))
 
     -- what it says is the rule, and it has then taken the entry
-    pub takes : last_horizon before ≤ entry.horizon → (new : Resolver) (one : Option Said) → HasSaid old part new one
-        → (one ≡ Some (verdicts_on splits i (seen_of before) entry))
+    pub takes : last_horizon before ≤ entry.horizon → (new : Resolver) (one : Option Said)
+        (has : HasSaid old part new one) → (one ≡ Some (verdicts_on splits i (seen_of before) entry))
         × IsResolverAt splits (before ++ entry ∷ []) i new
+        × AreFindsOn splits i (seen_of before) entry has.verdicts.conflicts
     takes risen new one has =
         let answers = has.verdicts.answers in
         let after = (add_entry (seen_of before) entry).places in
@@ -174,6 +175,10 @@ module _ (splits : List Point) (before : List Entry) (entry : Entry)
                 (state_forgets splits i after (last_horizon before) entry.horizon _
                 (version_at new.versions) judged.1 risen kept));
           },
+          batches_are_found_by_the_rule splits (head_of (seen_of before) entry) i entry.batch (seen_of before).places
+              part.items answers has.verdicts.conflicts (last_horizon before) (version_at old.versions) history
+              at.state risen of.items (rw (of.version, of.horizon) at has.answer.answers)
+              (rw of.version at has.answer.conflicts),
         )
 
 -- a new resolver took nothing

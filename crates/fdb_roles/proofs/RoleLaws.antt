@@ -55,7 +55,7 @@ resolver_goes_on splits book entry i old part entries rise at of = (
       let took = takes splits book entry entries (length book) i old part at of
       (last-risen book entry rise) new (Some verdicts.answers)
       (record { verdicts = verdicts; said_them = refl; answer = answer; taken = taken }) in
-      (same-some verdicts.answers _ took.0, took.1),
+      (same-some verdicts.answers _ took.0, took.1, took.2),
 )
   where
     same-some : (a b : List (ℕ × Verdict)) → Some a ≡ Some b → a ≡ b

@@ -4,6 +4,8 @@ pub mod Committed
 pub mod Entries
 pub mod Fronts
 pub mod Judging
+pub mod LayerExamples
+pub mod Layers
 pub mod Legal
 pub mod Lists
 pub mod Outcomes

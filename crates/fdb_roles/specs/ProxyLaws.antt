@@ -17,13 +17,14 @@ use Rattle.fdb_proxy.specs.declared.outcome.Outcome.{Outcome}
 use Rattle.fdb_proxy.specs.declared.stage.Stage.TheVariants as stage
 use Rattle.fdb_proxy.specs.CommitProxies.{CommitProxy, IsNewProxy, is_idle, is_sealed, submitting, sealing, unsealing}
 use Rattle.fdb_proxy.specs.CommitProxies.{IsTicketFor, learn_fault, HasLearntTicket, position_of, without_verdicts}
-use Rattle.fdb_proxy.specs.CommitProxies.{parts_in, verdict_fault, with_verdict, decide_fault, outcomes_in, deciding}
-use Rattle.fdb_proxy.specs.CommitProxies.{messages_fault, messages_of, with_logged, done_fault, answers_in, finishing}
+use Rattle.fdb_proxy.specs.CommitProxies.{parts_in, verdict_fault, with_verdict, decide_fault, outcomes_in}
+use Rattle.fdb_proxy.specs.CommitProxies.{conflicts_in, deciding, messages_fault, messages_of, with_logged, done_fault}
+use Rattle.fdb_proxy.specs.CommitProxies.{answers_in, finishing}
 use Rattle.fdb_proxy.specs.Logging.{answers_by}
 use Rattle.fdb_proxy.specs.Parting.{AreParts}
 use Rattle.fdb_proxy.specs.Verdicts.{moves_through, outcomes_on}
 use Rattle.fdb_roles.specs.Outcomes.{IsByRule}
-use Rattle.fdb_roles.specs.ProxyStages.{IsCommitProxyAt, IsSaid, position_in}
+use Rattle.fdb_roles.specs.ProxyStages.{AreConflictsOn, IsCommitProxyAt, IsSaid, position_in}
 use Rattle.fdb_roles.specs.Entries.{dated_moves, entry_of}
 
 -- entry i is the last one
@@ -78,7 +79,8 @@ ProxiesHearVerdicts =
     → verdict_fault proxy verdicts ≡ None
     → IsCommitProxyAt config front (with_verdict proxy verdicts)
 
--- What is decided of the batch is what becomes of the last entry's places by the rule. It has messages then.
+-- What is decided of the batch is what becomes of the last entry's places by the rule, with their conflict sets. It has
+-- messages then.
 abbrev pub ProxiesDecideByTheRule : Type 0
 ProxiesDecideByTheRule =
     (config : Config) (front : List Entry) (i : ℕ) (entry : Entry) (proxy : CommitProxy)
@@ -86,6 +88,7 @@ ProxiesDecideByTheRule =
     → IsLastEntry front i entry → decide_fault proxy ≡ None
     → (outcomes_in proxy ≡ outcomes_on config.resolver_splits (seen_before front i) entry)
     × (messages_fault (deciding proxy) ≡ None) × IsCommitProxyAt config front (deciding proxy)
+    × AreConflictsOn config.resolver_splits (seen_before front i) entry (conflicts_in proxy)
 
 -- the messages of a decided batch are those of the last entry, one for each log
 abbrev pub MessagesAreOfTheEntry : Type 0

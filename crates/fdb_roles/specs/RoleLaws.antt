@@ -28,9 +28,10 @@ use Rattle.fdb_proxy.specs.Parting.{IsPartOf}
 use Rattle.fdb_proxy.specs.Verdicts.{moves_through, verdicts_on}
 use Rattle.fdb_roles.specs.Entries.{entry_of}
 use Rattle.fdb_roles.specs.AtBook.{IsResolverAt, IsSequencerAt, IsLogAt, IsShardAt}
-use Rattle.fdb_roles.specs.ProxyStages.{position_in}
+use Rattle.fdb_roles.specs.ProxyStages.{AreFindsOn, position_in}
 
--- A resolver isn't refused its part of the next entry, says the rule's verdicts, and has then taken the entry.
+-- A resolver isn't refused its part of the next entry, says the rule's verdicts, has then taken the entry, and found
+-- what it finds there by the rule.
 abbrev pub ResolverGoesOn : Type 0
 ResolverGoesOn =
     (splits : List Point) (book : List Entry) (entry : Entry) (i : ℕ) (old : Resolver) (part : Part)
@@ -39,7 +40,8 @@ ResolverGoesOn =
     → IsPartOf splits (moves_through (seen_of book) entry) (position_in (length book) entry) entry.batch i part
     → (part_fault old part ≡ None)
     × ((verdicts : Verdicts) (new : Resolver) → IsAnswer old part verdicts → resolver.HasTaken old part verdicts new
-    → (verdicts.answers ≡ verdicts_on splits i (seen_of book) entry) × IsResolverAt splits (book ++ entry ∷ []) i new)
+    → (verdicts.answers ≡ verdicts_on splits i (seen_of book) entry) × IsResolverAt splits (book ++ entry ∷ []) i new
+    × AreFindsOn splits i (seen_of book) entry verdicts.conflicts)
 
 -- Owners that are those of the book's moves, and learn the next entry's, are those of the moves with these.
 abbrev pub OwnersGoOn : Type 0

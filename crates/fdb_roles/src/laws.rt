@@ -2,6 +2,7 @@
 //! its answers.
 ghost use Rattle.fdb_roles.specs.Committed.{ReadsOfTheCommittedStand, CommittedWhereTheAskedSayYes};
 ghost use Rattle.fdb_roles.specs.Fronts.{FrontsHaveOneRun};
+ghost use Rattle.fdb_roles.specs.LayerExamples.{WorkedLayers};
 ghost use Rattle.fdb_roles.specs.ProxyExamples.{OtherProxiesAreElsewhere};
 ghost use Rattle.fdb_roles.specs.ProxyLaws.{NewProxiesHaveNoEntry, RequestsComeAndGo, ProxiesLearnTheirTickets};
 ghost use Rattle.fdb_roles.specs.ProxyLaws.{ProxiesHearVerdicts, ProxiesDecideByTheRule, MessagesAreOfTheEntry};
@@ -125,4 +126,11 @@ pub fn commit_proxies_go_on_with_their_tickets()
 /// flight that isn't the last entry's.
 pub fn worked_proxies()
     ensures { OtherProxiesAreElsewhere }
+{}
+
+/// Which transactions keep a layer in miniature, that the same stands at two keys: those that set both, by a stamp too,
+/// and those that copy what they read; and which don't: those that copy what a snapshot gave, and those that set one
+/// key alone.
+pub fn worked_layers()
+    ensures { WorkedLayers }
 {}

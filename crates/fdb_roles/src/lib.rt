@@ -3,6 +3,8 @@
 #![tactic(auto)]
 
 pub mod laws;
+mod layer;
 mod placed;
 
+pub use layer::{Layer, a_book_keeps_what_each_transaction_keeps};
 pub use placed::Placed;

@@ -4,7 +4,7 @@ ghost use Rattle.std.specs.Prelude.{◌≡◌};
 use crate::asserting::same;
 use crate::running::{
     Asked, Done, Host, Named, add_read, add_write, byte_of, commit_code, is_serial, length_of, put,
-    reads_just, receipt_of, two_sessions, write,
+    reads_just, receipt_of, refused_at, two_sessions, write,
 };
 use fdb_keys::{Items, Key, Refusal};
 use fdb_making::{coded, count_config, keys_of};
@@ -34,7 +34,8 @@ fn see_other<B: ClusterName, R: Wait + Abort>(
     Ok(())
 }
 
-// A transaction that is turned down leaves nothing: another one wrote what it had read.
+// A transaction that is turned down leaves nothing: another one wrote what it had read, and just that comes back with
+// it.
 fn turn_down<B: ClusterName, R: Wait + Abort>(
     rt: &R,
     alloc: Global,
@@ -44,9 +45,14 @@ fn turn_down<B: ClusterName, R: Wait + Abort>(
     put(rt, alloc, first, b"x", 1)?;
     late.begin(rt, alloc)?;
     same(rt, coded(byte_of(rt, alloc, late, b"x")), Ok(Some(1)));
+    same(rt, coded(byte_of(rt, alloc, late, b"w")), Ok(None));
     put(rt, alloc, first, b"x", 2)?;
     write(late, Mutation::set(alloc, b"x", &[3]))?;
-    same(rt, commit_code(rt, alloc, late), (1020, true));
+    same(
+        rt,
+        refused_at(rt, alloc, late, &[(b"x", b"x\0")]),
+        (1020, true),
+    );
     begin_anew(rt, alloc, late)
 }
 

@@ -3,10 +3,12 @@ ghost use Rattle.std.specs.Prelude.{◌≡◌, suc, length};
 ghost use Rattle.fdb_txn.specs.book.History.{IsBook};
 
 use fdb_check::{CheckFault, serial_check};
-use fdb_keys::{Key, KeyRange, Refusal, Refused};
-use fdb_making::{are_pairs, both, made_of};
+use fdb_keys::{Key, KeyRange, RangeSet, Refusal, Refused};
+use fdb_making::{are_pairs, are_ranges, both, made_of};
 use fdb_mutations::Mutation;
-use fdb_runtime::{ClusterName, Config, Database, Entry, Placed, Receipt, Record, Session, Spot};
+use fdb_runtime::{
+    ClusterName, Config, Database, Entry, Placed, Receipt, Record, Session, Spot, Transcript,
+};
 use std::alloc::Global;
 use std::marker::Brand;
 use std::process::Abort;
@@ -90,10 +92,41 @@ pub(crate) fn commit_code<B: ClusterName, R: Wait>(
 }
 
 // The code of the refusal, 0 where there is none, and whether something is handed back.
-fn refusal_code<T: Drop, U: Drop>(answer: Result<T, Refused<Option<U>>>) -> (u32, bool) {
+fn refusal_code<T: Drop>(
+    answer: Result<T, Refused<Option<(Transcript, RangeSet)>>>,
+) -> (u32, bool) {
     match answer {
         Ok(_given) => (0, false),
-        Err(refused) => (refused.why.code(), refused.back.is_some()),
+        Err(refused) => (refused.why.code(), is_handed_back(&refused)),
+    }
+}
+
+// Whether the transcript is handed back, and with it some points just where it conflicts.
+fn is_handed_back(refused: &Refused<Option<(Transcript, RangeSet)>>) -> bool {
+    match &refused.back {
+        Some((_transcript, conflict)) => {
+            conflict.is_empty() == (refused.why != Refusal::NotCommitted)
+        }
+        None => false,
+    }
+}
+
+/// Commits the transaction. Answers the code of the refusal, and whether just the points of these ranges come with it.
+pub(crate) fn refused_at<B: ClusterName, R: Wait>(
+    rt: &R,
+    alloc: Global,
+    session: &mut Session<B>,
+    ranges: &[(&[u8], &[u8])],
+) -> (u32, bool) {
+    match session.commit(rt, alloc) {
+        Ok(_receipt) => (0, false),
+        Err(refused) => match &refused.back {
+            Some((_transcript, conflict)) => (
+                refused.why.code(),
+                are_ranges(conflict.iter().as_slice(), ranges),
+            ),
+            None => (refused.why.code(), false),
+        },
     }
 }
 

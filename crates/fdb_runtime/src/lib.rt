@@ -8,10 +8,11 @@ mod session;
 mod shared;
 mod threads;
 
+pub use bytes::Bytes;
 pub use database::Database;
 pub use fdb_book::{Blank, BookName, Front};
 pub use fdb_client::{Op, Reply, Transcript};
-pub use fdb_keys::{Items, Key, KeyRange, Refusal, Refused};
+pub use fdb_keys::{Items, Key, KeyRange, RangeSet, Refusal, Refused};
 pub use fdb_mutations::{Mutation, Stamp};
 pub use fdb_proxy::Config;
 pub use fdb_roles::Placed;

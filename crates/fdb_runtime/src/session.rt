@@ -24,7 +24,7 @@ use crate::threads::reply::Slots;
 use crate::threads::request::{BeginRequest, CommitRequest};
 use bytes::Bytes;
 use fdb_client::Transcript;
-use fdb_keys::{Items, Key, KeyRange, Refusal, Refused};
+use fdb_keys::{Items, Key, KeyRange, RangeSet, Refusal, Refused};
 use fdb_mutations::Mutation;
 use fdb_sections::{
     Asked, Client, ClusterName, CommitReply, GrantMessage, GrantReply, Receipt, why_of,
@@ -382,12 +382,13 @@ impl<B: ClusterName> Session<B> {
     /// another one wrote what it read, and `TransactionTooOld` where it read at too old a version, which both may be
     /// tried anew; `BookFull`, `Exhausted`, `Repeated` and `Chain` where it got no entry, `Closed` once the database is
     /// closed, and `Failed`: after these six no place of what the session has seen is it. It has no effect after any of
-    /// these eight. After `CommitUnknownResult` it may have been committed or not.
+    /// these eight. After `CommitUnknownResult` it may have been committed or not. With the transcript it hands back
+    /// the points at which the transaction conflicts where it is refused as `NotCommitted`, and none else.
     pub fn commit<R: Wait>(
         &mut self,
         rt: &R,
         alloc: Global,
-    ) -> Result<Receipt<B>, Refused<Option<Transcript>>>
+    ) -> Result<Receipt<B>, Refused<Option<(Transcript, RangeSet)>>>
         ensures { CommitAnswers B.config self.old result self.new }
     {
         let reply = match self.slots.outcomes() {
@@ -399,7 +400,7 @@ impl<B: ClusterName> Session<B> {
             Ok(Asked::ToCommit(sealed)) => {
                 let request = CommitRequest { sealed, reply };
                 let told = ask_commit(rt, &self.shared, &self.slots, self.number, request);
-                self.client.settle(self.shared.limit(), told)
+                self.client.settle(alloc, self.shared.limit(), told)
             }
             Err(why) => Err(Refused { why, back: None }),
         }

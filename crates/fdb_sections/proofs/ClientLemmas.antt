@@ -8,7 +8,7 @@ use Rattle.fdb_client.specs.declared.program.Transcript.{Transcript}
 use Rattle.fdb_client.specs.Programs.{is_read_only, commit_request_of}
 use Rattle.fdb_sections.specs.declared.client.Asked.TheVariants as asked
 use Rattle.fdb_sections.specs.Clients.{Client, Asks}
-use Rattle.fdb_sections.specs.Commits.{CommitAnswers, CommitEnds, open_fault}
+use Rattle.fdb_sections.specs.Commits.{Back, CommitAnswers, CommitEnds, open_fault}
 use Rattle.fdb_sections.specs.Receipts.{ReceiptAtFront}
 use Rattle.fdb_sections.specs.Sessions.{with_current}
 use Rattle.fdb_sections.proofs.CommitLemmas.{ended-open}
@@ -16,7 +16,7 @@ use Rattle.fdb_sections.proofs.CommitLemmas.{ended-open}
 -- A session that is told what became of what it submitted is answered that of what was open, and has submitted nothing
 -- then.
 pub settled : (B : Type 0) (config : Config) (old middle new : Client) (request : Transaction)
-    (result : Result ReceiptAtFront (Refused (Option Transcript)))
+    (result : Result ReceiptAtFront (Refused Back))
     → Asks {B = B} config old (Ok (asked.ToCommit request)) middle
     → IfSome middle.submitted (λ transcript. (new.submitted ≡ None)
     × CommitEnds config middle.session transcript result new.session)

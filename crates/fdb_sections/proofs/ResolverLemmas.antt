@@ -17,6 +17,7 @@ use Rattle.fdb_resolver.specs.declared.verdict.Verdicts.{Verdicts}
 use Rattle.fdb_resolver.specs.Resolvers.{Resolver, part_fault, IsAnswer, HasTaken, HasFailed}
 use Rattle.fdb_proxy.specs.Verdicts.{moves_through, verdicts_on}
 use Rattle.fdb_roles.specs.AtBook.{IsResolverAt}
+use Rattle.fdb_roles.specs.ProxyStages.{AreFindsOn}
 use Rattle.fdb_roles.proofs.Exports.{resolver_goes_on, is-part, follows}
 use Rattle.fdb_sections.specs.Messages.{PartAtFront, IsLastPart, VerdictsAtFront, AreLastVerdicts, position_after}
 use Rattle.fdb_sections.specs.RolesAtFronts.{ResolverAtFront}
@@ -54,6 +55,7 @@ module _ (splits : List Point) (sent : PartAtFront) (is : IsLastPart splits sent
         → HasTaken old sent.part verdicts new
         → (verdicts.answers ≡ verdicts_on splits sent.part.resolver (seen_of is.before) is.entry)
         × IsResolverAt splits (is.before ++ is.entry ∷ []) sent.part.resolver new
+        × AreFindsOn splits sent.part.resolver (seen_of is.before) is.entry verdicts.conflicts
     goes-on = (resolver_goes_on splits is.before is.entry sent.part.resolver old sent.part entries-here
         (subst (HorizonsRise 0) is.front_is rise) at-before is.part_is).1
 
@@ -69,6 +71,8 @@ module _ (splits : List Point) (sent : PartAtFront) (is : IsLastPart splits sent
           resolver = omega (arith, answer.resolver, within);
           answers = (goes-on verdicts new answer taken).0
               ∙ ap (λ (i : ℕ). verdicts_on splits i (seen_of is.before) is.entry) (sym its);
+          found = subst (λ (i : ℕ). AreFindsOn splits i (seen_of is.before) is.entry verdicts.conflicts) (sym its)
+              (goes-on verdicts new answer taken).2;
         }
 
     pub is-there : (verdicts : Verdicts) (new : Resolver) → IsAnswer old sent.part verdicts

@@ -142,7 +142,8 @@ module _ (splits : List Point) (long : List Entry) (told : OutcomeAtFront) (tran
       }
 
   -- else it is turned down there
-  pub turned-down : (why : Refusal) → settle_fault told.outcome ≡ Some why → IsTurnedDown splits long transcript why
+  pub turned-down : (why : Refusal) → settle_fault told.outcome ≡ Some why
+      → IsTurnedDown splits long transcript why told.conflict
   turned-down why fault = record {
     entry = is.last;
     place = told.place;
@@ -151,6 +152,7 @@ module _ (splits : List Point) (long : List Entry) (told : OutcomeAtFront) (tran
     asked = asked;
     uncommitted = no;
     why_is = by_rule (is_fresh is.there.0) refl;
+    conflicts = is.conflict;
   }
     where
       no : committed splits is.there.1 is.there.0 ≡ false

@@ -12,6 +12,7 @@ use Rattle.std.proofs.lemmas.List.{take-append-drop, drop-append-le}
 use Rattle.std.proofs.lemmas.Option.{same_Some}
 use Rattle.fdb_keys.proofs.Exports.{items_eq_decides}
 use Rattle.fdb_keys.specs.Answers.{Answers}
+use Rattle.fdb_keys.specs.Ranges.{Range}
 use Rattle.fdb_keys.specs.declared.refusal.Refusal.{Refusal}
 use Rattle.fdb_keys.specs.declared.refusal.Refusal.TheVariants.{NoMemory, WrongState}
 use Rattle.fdb_txn.specs.Equality.{sealed_eq}
@@ -31,9 +32,9 @@ use Rattle.fdb_proxy.specs.CommitProxies.{HasLearntTicket, HasFailed}
 use Rattle.fdb_roles.specs.ProxyStages.{IsCommitProxyAt}
 use Rattle.fdb_roles.specs.Entries.{dated_moves, entry_of}
 use Rattle.fdb_roles.proofs.Exports.{proxies_learn_their_tickets, take-take}
-use Rattle.fdb_sections.specs.CommitProxiesAtFronts.{IsThere}
+use Rattle.fdb_sections.specs.CommitProxiesAtFronts.{AreSetsOf}
 use Rattle.fdb_sections.specs.Ticketing.{is_of_entry, IsTicketOf, are_left, AnswersTicket}
-use Rattle.fdb_sections.proofs.CommitProxyLemmas.{front-is, before-count}
+use Rattle.fdb_sections.proofs.CommitProxyLemmas.{Holds, front-is, before-count}
 
 -- the ticket of a front's last entry, which comes to a proxy with fewer entries
 module _ (config : Config) (own front : List Entry) (proxy : CommitProxy) (ticket : Ticket)
@@ -145,23 +146,29 @@ module _ (config : Config) (own front : List Entry) (proxy : CommitProxy) (ticke
     };
   }
 
-  pub is-there : (new : CommitProxy) → HasLearntTicket proxy ticket new → IsThere config front new
-  is-there new learnt = λ _.
-      subst (λ (shown : List Entry). IsCommitProxyAt config shown new) (sym whole)
-      ((proxies_learn_their_tickets config own between proxy its at entries-there rise-there number moves-there).2 new
-      (its-learnt new learnt)).0
+  pub is-there : (conflicts : List (List Range)) (new : CommitProxy) → HasLearntTicket proxy ticket new
+      → Holds config front conflicts new
+  is-there conflicts new learnt = (
+    λ _. subst (λ (shown : List Entry). IsCommitProxyAt config shown new) (sym whole)
+        ((proxies_learn_their_tickets config own between proxy its at entries-there rise-there number moves-there).2 new
+        (its-learnt new learnt)).0,
+    subst (λ (it : CommitProxy). AreSetsOf config front it.stage conflicts) (sym learnt.rest) tt,
+  )
 
 -- one whose ticket the state refused stays there, or has failed
-pub refused-there : (config : Config) (own : List Entry) (old new : CommitProxy) (ticket : Ticket)
-    → IsThere config own old → (IsSome (learn_fault old ticket) → new ≡ old)
-    → (IsNone (learn_fault old ticket) → HasFailed old ticket new) → IsThere config own new
-refused-there config own old new ticket there same fails = by_fault (learn_fault old ticket) same fails
+pub refused-there : (config : Config) (own : List Entry) (conflicts : List (List Range)) (old new : CommitProxy)
+    (ticket : Ticket)
+    → Holds config own conflicts old → (IsSome (learn_fault old ticket) → new ≡ old)
+    → (IsNone (learn_fault old ticket) → HasFailed old ticket new) → Holds config own conflicts new
+refused-there config own conflicts old new ticket holds same fails = by_fault (learn_fault old ticket) same fails
   where
     by_fault : (fault : Option Refusal) → (IsSome fault → new ≡ old) → (IsNone fault → HasFailed old ticket new)
-        → IsThere config own new
-    by_fault (Some why) stays failed = subst (IsThere config own) (sym (stays refl)) there
-    by_fault None stays failed = λ works.
-        absurd (true≢false (sym (ap (λ (p : CommitProxy). p.is_failed) (failed refl).rest) ∙ works))
+        → Holds config own conflicts new
+    by_fault (Some why) stays failed = subst (Holds config own conflicts) (sym (stays refl)) holds
+    by_fault None stays failed = (
+      λ works. absurd (true≢false (sym (ap (λ (p : CommitProxy). p.is_failed) (failed refl).rest) ∙ works)),
+      subst (λ (it : CommitProxy). AreSetsOf config own it.stage conflicts) (sym (failed refl).rest) tt,
+    )
 
 -- the entries from one on are that one and those behind it
 drop-next : (front : List Entry) (i : ℕ) (entry : Entry) → slice_get front i ≡ Some entry

@@ -8,6 +8,7 @@ use Rattle.fdb_keys.specs.declared.refusal.Refusal.TheVariants.{CommitUnknownRes
 use Rattle.fdb_txn.specs.declared.entry.Entry.{Entry}
 use Rattle.fdb_txn.specs.declared.txn_id.TxnId.{TxnId}
 use Rattle.fdb_txn.specs.book.Transactions.{Transaction}
+use Rattle.fdb_keys.specs.Ranges.{Range}
 use Rattle.fdb_resolver.specs.declared.part.Part.{Part}
 use Rattle.fdb_sequencer.specs.declared.ticket.Ticket.{Ticket}
 use Rattle.fdb_log.specs.declared.message.LogMsg.{LogMsg}
@@ -148,10 +149,16 @@ acknowledged it sent = record it {
 abbrev pub report_fault : List Entry → CommitProxy → List Entry → Option Refusal
 report_fault own proxy reported = if length reported == length own then done_fault proxy else Some Stale
 
--- What the client of a place is told: what became of it, or, where memory ran out for that, that it isn't known.
+-- What the client of a place is told: what became of it, with the points at which it conflicts, or, where memory ran
+-- out for that, that it isn't known.
 abbrev pub IsReplyTo : {B : Type 0} → List Entry → ℕ → Outcome → CommitReply B → Type 0
 IsReplyTo front place outcome told =
-    (told ≡ reply.Outcome (record { front = front; place = place; outcome = outcome }))
+    ((conflict : List Range) × (told ≡ reply.Outcome (record {
+      front = front;
+      place = place;
+      outcome = outcome;
+      conflict = conflict;
+    })))
     ⊎ (told ≡ reply.Refused CommitUnknownResult)
 
 -- each, from the place on

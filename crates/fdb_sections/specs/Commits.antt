@@ -1,6 +1,7 @@
 -- How a commit ends for the session that asked for it.
-use Rattle.std.specs.Prelude.{◌≡◌, ◌==◌, ◌&&◌, ◌⊎◌, max, Bool, true, false, not, List, length, Option, Some, None}
+use Rattle.std.specs.Prelude.{◌≡◌, ◌==◌, ◌&&◌, ◌⊎◌, max, Bool, true, false, not, List, [], length, Option, Some, None}
 use Rattle.std.specs.Prelude.{IfSome, Result, Ok, Err, if◌then◌else◌}
+use Rattle.fdb_keys.specs.Ranges.{Range}
 use Rattle.fdb_keys.specs.declared.refusal.Refusal.{Refusal}
 use Rattle.fdb_keys.specs.declared.refusal.Refusal.TheVariants as refusal
 use Rattle.fdb_keys.specs.declared.refusal.Refused.{Refused}
@@ -18,6 +19,10 @@ use Rattle.fdb_sections.specs.declared.messages.reply.CommitReply.{CommitReply}
 use Rattle.fdb_sections.specs.declared.messages.reply.CommitReply.TheVariants as reply
 use Rattle.fdb_sections.specs.Receipts.{ReceiptAtFront, OutcomeAtFront, IsTurnedDown}
 use Rattle.fdb_sections.specs.Sessions.{Session, TakesOutcome, seeing}
+
+-- what a refusal hands back, if anything: the transcript, and the points at which it conflicts
+abbrev pub Back : Type 0
+Back = Option (Transcript × List Range)
 
 -- whether a spot is that of a transaction that wrote nothing
 abbrev pub is_read_only_spot : Spot → Bool
@@ -57,13 +62,15 @@ is_without_place refusal.Closed = true
 is_without_place why = false
 
 -- What a refusal tells of the book that the session has seen then: the transaction stands there and isn't committed, or
--- the book is full. Nothing is told by any other one.
-abbrev pub Tells : Config → List Entry → Transcript → Refusal → Type 0
-Tells config front transcript why =
-    (why ≡ refusal.NotCommitted → IsTurnedDown config.resolver_splits front transcript refusal.NotCommitted)
+-- the book is full. Nothing is told by any other one. It comes with the points at which a transaction conflicts that is
+-- refused so, and with none else.
+abbrev pub Tells : Config → List Entry → Transcript → Refusal → List Range → Type 0
+Tells config front transcript why conflict =
+    (why ≡ refusal.NotCommitted → IsTurnedDown config.resolver_splits front transcript refusal.NotCommitted conflict)
     × (why ≡ refusal.TransactionTooOld
-    → IsTurnedDown config.resolver_splits front transcript refusal.TransactionTooOld)
+    → IsTurnedDown config.resolver_splits front transcript refusal.TransactionTooOld conflict)
     × (why ≡ refusal.BookFull → length front ≡ config.book)
+    × ((why ≡ refusal.NotCommitted → ⊥) → conflict ≡ [])
 
 -- The session has the receipt, on whose front it goes on. Its mark is no less than the version of the spot.
 pub record HasReceipt (old : Session) (transcript : Transcript) (receipt : ReceiptAtFront) (new : Session) : Type 0
@@ -77,25 +84,25 @@ pub record HasReceipt (old : Session) (transcript : Transcript) (receipt : Recei
       current = None;
     }
 
--- The session has the transcript back, and nothing open. It has seen at least as much of the book as before. Where it
--- is told that its transaction has no place, none that it has seen is it.
+-- The session has the transcript back, with the points at which it conflicts, and nothing open. It has seen at least as
+-- much of the book as before. Where it is told that its transaction has no place, none that it has seen is it.
 pub record HasTranscript (config : Config) (old : Session) (transcript : Transcript)
-    (refused : Refused (Option Transcript)) (new : Session) : Type 0 where
-  pub back : refused.back ≡ Some transcript
+    (refused : Refused Back) (new : Session) : Type 0 where
+  pub conflict : List Range
+  pub back : refused.back ≡ Some (transcript, conflict)
   pub listed : is_handed_back refused.why ≡ true
-  pub tells : Tells config new.front transcript refused.why
+  pub tells : Tells config new.front transcript refused.why conflict
   pub begins : IsPrefix old.front new.front
   pub left : new ≡ record old { front = new.front; current = None }
   pub absent : is_without_place refused.why ≡ true → IsNowhere (commit_request_of transcript) new.front
 
 -- Memory ran out before the proxy took the request: the transaction is open as it was, and isn't handed back.
-abbrev pub IsOpenAgain : Session → Transcript → Refused (Option Transcript) → Session → Type 0
+abbrev pub IsOpenAgain : Session → Transcript → Refused Back → Session → Type 0
 IsOpenAgain old transcript refused new =
     (refused ≡ record { why = refusal.NoMemory; back = None }) × (new ≡ record old { current = Some transcript })
 
 -- what becomes of a session's transaction that was submitted
-abbrev pub CommitEnds : Config → Session → Transcript → Result ReceiptAtFront (Refused (Option Transcript)) → Session
-    → Type 0
+abbrev pub CommitEnds : Config → Session → Transcript → Result ReceiptAtFront (Refused Back) → Session → Type 0
 CommitEnds config old transcript (Ok receipt) new = HasReceipt old transcript receipt new
 CommitEnds config old transcript (Err refused) new =
     HasTranscript config old transcript refused new ⊎ IsOpenAgain old transcript refused new
@@ -118,7 +125,7 @@ IsUnlessShown front transcript plain why =
     ⊎ ((why ≡ refusal.CommitUnknownResult) × (IsNowhere (commit_request_of transcript) front → ⊥))
 
 -- it is answered by the outcome that it is told, or doesn't know it
-abbrev pub IsByOutcome : Session → OutcomeAtFront → Transcript → Result ReceiptAtFront (Refused (Option Transcript))
+abbrev pub IsByOutcome : Session → OutcomeAtFront → Transcript → Result ReceiptAtFront (Refused Back)
     → Session → Type 0
 IsByOutcome it told transcript (Ok receipt) new = TakesOutcome it told transcript (Ok (receipt.front, receipt.spot)) new
 IsByOutcome it told transcript (Err refused) new = TakesOutcome it told transcript (Err refused.why) new
@@ -134,7 +141,7 @@ IsByFull config it transcript front why new =
 
 -- It is refused with no front to show why: it is open again where its request was never taken, and else it is answered
 -- that reason, if a session may be, unless the own front shows the transaction.
-abbrev pub IsByReason : Session → Transcript → Refusal → Result ReceiptAtFront (Refused (Option Transcript)) → Session
+abbrev pub IsByReason : Session → Transcript → Refusal → Result ReceiptAtFront (Refused Back) → Session
     → Type 0
 IsByReason it transcript why (Ok receipt) new = ⊥
 IsByReason it transcript why (Err refused) new =
@@ -143,7 +150,7 @@ IsByReason it transcript why (Err refused) new =
 
 -- A session is answered what it is told: what became of its transaction, that the book is full, or that it is refused.
 abbrev pub IsToldSo : {B : Type 0} → Config → Session → Transcript → CommitReply B
-    → Result ReceiptAtFront (Refused (Option Transcript)) → Session → Type 0
+    → Result ReceiptAtFront (Refused Back) → Session → Type 0
 IsToldSo config it transcript (reply.Outcome told) result new = IsByOutcome it told transcript result new
 IsToldSo config it transcript (reply.Full front) (Ok receipt) new = ⊥
 IsToldSo config it transcript (reply.Full front) (Err refused) new =
@@ -157,7 +164,7 @@ open_fault (Some transcript) = submit_fault transcript
 
 -- What a session that commits is answered. What was open stays where it can't be submitted, or memory runs out before.
 abbrev pub CommitAnswers
-    : Config → Session → Result ReceiptAtFront (Refused (Option Transcript)) → Session → Type 0
+    : Config → Session → Result ReceiptAtFront (Refused Back) → Session → Type 0
 CommitAnswers config old (Ok receipt) new =
     (open_fault old.current ≡ None) × IfSome old.current (λ transcript. HasReceipt old transcript receipt new)
 CommitAnswers config old (Err refused) new =

@@ -1,5 +1,6 @@
 -- What sessions come to and are told, computed.
-use Rattle.std.specs.Prelude.{◌≡◌, ℕ, true, false, List, [], ◌∷◌, Option, Some, None, Result, Ok, Err}
+use Rattle.std.specs.Prelude.{◌≡◌, ◌++◌, ℕ, true, false, List, [], ◌∷◌, codes, Some, None, Result, Ok, Err}
+use Rattle.fdb_keys.specs.Ranges.{Range}
 use Rattle.fdb_keys.specs.declared.refusal.Refusal.{Refusal}
 use Rattle.fdb_keys.specs.declared.refusal.Refusal.TheVariants as refusal
 use Rattle.fdb_keys.specs.declared.refusal.Refused.{Refused}
@@ -8,8 +9,9 @@ use Rattle.fdb_txn.specs.declared.spot.Spot.TheVariants as spot
 use Rattle.fdb_proxy.specs.declared.config.Config.{Config}
 use Rattle.fdb_client.specs.Programs.{commit_request_of}
 use Rattle.fdb_client.specs.declared.program.Transcript.{Transcript}
-use Rattle.fdb_roles.specs.SmallBooks.{does_nothing, plain, reads_and_sets, set_and_cleared, two_in_one_entry}
-use Rattle.fdb_sections.specs.Commits.{IsByFull, IsByReason, Tells, plain_reason}
+use Rattle.fdb_roles.specs.SmallBooks.{does_nothing, from_to, plain, reads_and_sets, set_and_cleared}
+use Rattle.fdb_roles.specs.SmallBooks.{two_in_one_entry}
+use Rattle.fdb_sections.specs.Commits.{Back, IsByFull, IsByReason, Tells, plain_reason}
 use Rattle.fdb_sections.specs.Reading.{RefusedBy, RefusesUnreadable, TellsUnreadable, own_writes_decide}
 use Rattle.fdb_sections.specs.Receipts.{GrantAtFront, IsTurnedDown, ReceiptAtFront}
 use Rattle.fdb_sections.specs.Refusals.{is_of_begin, is_of_read}
@@ -61,17 +63,21 @@ far = record {
   batch = commit_request_of (reads_and_sets 1 None) ∷ [];
 } ∷ []
 
+-- the key a alone
+abbrev pub only_a : List Range
+only_a = from_to (codes "a") (codes "a" ++ 0 ∷ []) ∷ []
+
 -- The second one read what the first one wrote: it is turned down for a conflict, and not as too old; the first one
 -- isn't turned down, and on a front without the entry nobody is. In an entry whose horizon it read below it is too old,
 -- and has no conflict.
 abbrev pub WorkedTurnedDown : Type 0
 WorkedTurnedDown =
-    IsTurnedDown [] two_in_one_entry (reads_and_sets 1 None) refusal.NotCommitted
-    × (IsTurnedDown [] two_in_one_entry (reads_and_sets 1 None) refusal.TransactionTooOld → ⊥)
-    × (IsTurnedDown [] two_in_one_entry (reads_and_sets 0 None) refusal.NotCommitted → ⊥)
-    × (IsTurnedDown [] [] (reads_and_sets 1 None) refusal.NotCommitted → ⊥)
-    × IsTurnedDown [] far (reads_and_sets 1 None) refusal.TransactionTooOld
-    × (IsTurnedDown [] far (reads_and_sets 1 None) refusal.NotCommitted → ⊥)
+    IsTurnedDown [] two_in_one_entry (reads_and_sets 1 None) refusal.NotCommitted only_a
+    × (IsTurnedDown [] two_in_one_entry (reads_and_sets 1 None) refusal.TransactionTooOld only_a → ⊥)
+    × (IsTurnedDown [] two_in_one_entry (reads_and_sets 0 None) refusal.NotCommitted only_a → ⊥)
+    × (IsTurnedDown [] [] (reads_and_sets 1 None) refusal.NotCommitted only_a → ⊥)
+    × IsTurnedDown [] far (reads_and_sets 1 None) refusal.TransactionTooOld []
+    × (IsTurnedDown [] far (reads_and_sets 1 None) refusal.NotCommitted [] → ⊥)
 
 -- What tells nothing of the book is handed on as it is; what a front would have to show, that memory ran out, and what
 -- ends no transaction leave it open what became of the transaction.
@@ -99,13 +105,13 @@ WorkedUntaken =
     IsByReason fresh (opened 100) refusal.NoMemory (Err (record { why = refusal.NoMemory; back = None })) opened_first
     × (IsByReason fresh (opened 100) refusal.NoMemory (Err (record { why = refusal.NoMemory; back = None })) fresh → ⊥)
     × (IsByReason fresh (opened 100) refusal.NoMemory
-    (Err (record { why = refusal.CommitUnknownResult; back = Some (opened 100) })) opened_first → ⊥)
+    (Err (record { why = refusal.CommitUnknownResult; back = Some (opened 100, []) })) opened_first → ⊥)
     × IsByReason fresh (opened 100) refusal.Failed
-    (Err (record { why = refusal.Failed; back = Some (opened 100) })) fresh
+    (Err (record { why = refusal.Failed; back = Some (opened 100, []) })) fresh
     × (IsByReason fresh (opened 100) refusal.Failed
     (Err (record { why = refusal.NoMemory; back = None })) opened_first → ⊥)
     × (IsByReason fresh (opened 100) refusal.Failed
-    (Err (record { why = refusal.Failed; back = Some (opened 100) })) opened_first → ⊥)
+    (Err (record { why = refusal.Failed; back = Some (opened 100, []) })) opened_first → ⊥)
 
 -- one of each role, and a book of so many entries
 abbrev pub of_book : ℕ → Config
@@ -122,12 +128,32 @@ WorkedFullBooks =
     × (IsByFull (of_book 2) fresh (opened 100) two_in_one_entry refusal.BookFull has_seen → ⊥)
     × (IsByFull (of_book 1) fresh (opened 100) two_in_one_entry refusal.BookFull fresh → ⊥)
     × (IsByFull (of_book 1) fresh (opened 100) two_in_one_entry refusal.Failed has_seen → ⊥)
-    × Tells (of_book 1) two_in_one_entry does_nothing refusal.BookFull
-    × (Tells (of_book 2) two_in_one_entry does_nothing refusal.BookFull → ⊥)
+    × Tells (of_book 1) two_in_one_entry does_nothing refusal.BookFull []
+    × (Tells (of_book 2) two_in_one_entry does_nothing refusal.BookFull [] → ⊥)
 
--- who is refused so, with the transcript
-abbrev pub back : Refusal → Transcript → Result ReceiptAtFront (Refused (Option Transcript))
-back why transcript = Err (record { why = why; back = Some transcript })
+-- the keys from a up to c
+abbrev pub a_and_b : List Range
+a_and_b = from_to (codes "a") (codes "c") ∷ []
+
+-- what the second one is told with some set, where it stands on the front
+abbrev pub tells_second : List Entry → Refusal → List Range → Type 0
+tells_second front why conflict = Tells (of_book 1) front (reads_and_sets 1 None) why conflict
+
+-- The second one is told of just the key that the first one wrote: of no fewer keys, and of no more. Who is too old, or
+-- doesn't know what became of the transaction, is told of no key.
+abbrev pub WorkedConflicts : Type 0
+WorkedConflicts =
+    tells_second two_in_one_entry refusal.NotCommitted only_a
+    × (tells_second two_in_one_entry refusal.NotCommitted [] → ⊥)
+    × (tells_second two_in_one_entry refusal.NotCommitted a_and_b → ⊥)
+    × tells_second far refusal.TransactionTooOld []
+    × (tells_second far refusal.TransactionTooOld only_a → ⊥)
+    × tells_second two_in_one_entry refusal.CommitUnknownResult []
+    × (tells_second two_in_one_entry refusal.CommitUnknownResult only_a → ⊥)
+
+-- who is refused so, with the transcript and no point
+abbrev pub back : Refusal → Transcript → Result ReceiptAtFront (Refused Back)
+back why transcript = Err (record { why = why; back = Some (transcript, []) })
 
 -- Whose transaction stands on the front is never told that the book is full or that a role failed, but that it isn't
 -- known what became of it; whose doesn't is told just that.

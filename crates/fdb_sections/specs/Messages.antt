@@ -17,7 +17,7 @@ use Rattle.fdb_proxy.specs.declared.position.Position.{Position}
 use Rattle.fdb_proxy.specs.Parting.{IsPartOf}
 use Rattle.fdb_proxy.specs.Verdicts.{moves_through, verdicts_on}
 use Rattle.fdb_roles.specs.AtBook.{IsLogAt}
-use Rattle.fdb_roles.specs.ProxyStages.{position_in}
+use Rattle.fdb_roles.specs.ProxyStages.{AreFindsOn, position_in}
 
 -- the position of an entry behind others
 abbrev pub position_after : List Entry → Entry → Position
@@ -41,7 +41,7 @@ pub record VerdictsAtFront : Type 0 where
   pub front : List Entry
   pub verdicts : Verdicts
 
--- they are what the rule says of their resolver's part of the front's last entry
+-- they are what the rule says of their resolver's part of the front's last entry, with what it finds there
 pub record AreLastVerdicts (splits : List Point) (sent : VerdictsAtFront) : Type 0 where
   pub before : List Entry
   pub entry : Entry
@@ -49,6 +49,7 @@ pub record AreLastVerdicts (splits : List Point) (sent : VerdictsAtFront) : Type
   pub index : sent.verdicts.index ≡ length before
   pub resolver : sent.verdicts.resolver < suc (length splits)
   pub answers : sent.verdicts.answers ≡ verdicts_on splits sent.verdicts.resolver (seen_of before) entry
+  pub found : AreFindsOn splits sent.verdicts.resolver (seen_of before) entry sent.verdicts.conflicts
 
 -- a log's message with the front that it was sent with
 pub record LogMsgAtFront : Type 0 where

@@ -2,6 +2,7 @@
 use Rattle.std.specs.Prelude.{◌≡◌, ◌≤◌, ◌-◌, ◌^◌, ℕ, suc, false, List, length, Option, Some, None, slice_get}
 use Rattle.std.specs.Prelude.{if◌then◌else◌}
 use Rattle.fdb_keys.specs.Points.{Point}
+use Rattle.fdb_keys.specs.Ranges.{Range, in_set}
 use Rattle.fdb_keys.specs.declared.refusal.Refusal.{Refusal}
 use Rattle.fdb_keys.specs.declared.refusal.Refusal.TheVariants.{NotCommitted, TransactionTooOld}
 use Rattle.fdb_txn.specs.declared.entry.Entry.{Entry}
@@ -13,6 +14,7 @@ use Rattle.fdb_txn.specs.book.Transactions.{Transaction}
 use Rattle.fdb_txn.specs.rules.Admission.{is_fresh, committed}
 use Rattle.fdb_proxy.specs.declared.outcome.Outcome.{Outcome}
 use Rattle.fdb_proxy.specs.declared.outcome.Outcome.TheVariants.{Commit, Conflict, Old}
+use Rattle.fdb_proxy.specs.Verdicts.{conflict_at}
 use Rattle.fdb_client.specs.Programs.{commit_request_of}
 use Rattle.fdb_client.specs.declared.program.Transcript.{Transcript}
 use Rattle.fdb_roles.specs.Outcomes.{IsByRule}
@@ -36,19 +38,21 @@ pub record GrantAtFront : Type 0 where
   pub front : List Entry
   pub committed : ℕ
 
--- what became of a place of the front's last entry
+-- what became of a place of the front's last entry, and the points at which it conflicts
 pub record OutcomeAtFront : Type 0 where
   pub front : List Entry
   pub place : ℕ
   pub outcome : Outcome
+  pub conflict : List Range
 
--- there is such a place, and the rule says so of it
+-- there is such a place, and the rule says so of it: an old one has no point
 pub record IsOutcome (splits : List Point) (told : OutcomeAtFront) : Type 0 where
   pub last : ℕ
   pub count : length told.front ≡ suc last
   pub there : Place × List Place
   pub there_is : place_at told.front last told.place ≡ Some there
   pub by_rule : IsByRule splits there told.place told.outcome
+  pub conflict : (x : Point) → in_set told.conflict x ≡ conflict_at splits (Some there) x
 
 -- the receipt of a transaction that wrote nothing, at its read version on a front
 abbrev pub read_only_receipt : List Entry → Transcript → ReceiptAtFront
@@ -79,10 +83,10 @@ settle_fault (Commit version place) = None
 settle_fault Conflict = Some NotCommitted
 settle_fault Old = Some TransactionTooOld
 
--- The transaction is at a place of the book, and isn't committed there: by the rule it has a conflict there, or is too
--- old.
+-- The transaction is at a place of the book, and isn't committed there: by the rule it conflicts there, at just the
+-- points of the set, or is too old.
 pub record IsTurnedDown (splits : List Point) (front : List Entry) (transcript : Transcript) (why : Refusal)
-    : Type 0 where
+    (conflict : List Range) : Type 0 where
   pub entry : ℕ
   pub place : ℕ
   pub there : Place × List Place
@@ -90,3 +94,4 @@ pub record IsTurnedDown (splits : List Point) (front : List Entry) (transcript :
   pub asked : there.0.transaction ≡ commit_request_of transcript
   pub uncommitted : committed splits there.1 there.0 ≡ false
   pub why_is : why ≡ (if is_fresh there.0 then NotCommitted else TransactionTooOld)
+  pub conflicts : (x : Point) → in_set conflict x ≡ conflict_at splits (Some there) x

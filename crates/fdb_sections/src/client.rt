@@ -36,7 +36,7 @@ use crate::session_state::submitted::Submitted;
 use bytes::Bytes;
 use fdb_book::Book;
 use fdb_client::{Snapshot, Transcript};
-use fdb_keys::{Items, Key, KeyRange, Refusal, Refused};
+use fdb_keys::{Items, Key, KeyRange, RangeSet, Refusal, Refused};
 use fdb_mutations::Mutation;
 use fdb_txn::Sealed;
 use std::alloc::Global;
@@ -335,16 +335,18 @@ impl<B: ClusterName> Client<B> {
     }
 
     /// Ends the transaction that was submitted by what the session's commit proxy tells: it gives its receipt, or says
-    /// why there is none and hands the transcript back. The transaction is open again where the proxy never took the
-    /// request, since memory ran out. Who is told that it has no place in the book, and whose front shows one, is
-    /// answered `CommitUnknownResult`. Refused as `WrongState` where none is submitted; then nothing changes, and
-    /// nothing is handed back. It takes O(1) time where there is a receipt, and at the most O(n) for the n transactions
-    /// of the entries that the front shows above the read version where there is none.
+    /// why there is none and hands the transcript back, with the points at which it conflicts where it is refused as
+    /// `NotCommitted`. The transaction is open again where the proxy never took the request, since memory ran out. Who
+    /// is told that it has no place in the book, and whose front shows one, is answered `CommitUnknownResult`. Refused
+    /// as `WrongState` where none is submitted; then nothing changes, and nothing is handed back. It takes O(1) time
+    /// where there is a receipt, and at the most O(n) for the n transactions of the entries that the front shows above
+    /// the read version where there is none.
     pub fn settle(
         &mut self,
+        alloc: Global,
         book: u32,
         told: CommitReply<B>,
-    ) -> Result<Receipt<B>, Refused<Option<Transcript>>>
+    ) -> Result<Receipt<B>, Refused<Option<(Transcript, RangeSet)>>>
         requires book { book ≡ B.config.book }
         ensures none { self.old.submitted ≡ None
             → (result ≡ Err (record { why = WrongState; back = None })) × (self.new ≡ self.old) }
@@ -354,7 +356,7 @@ impl<B: ClusterName> Client<B> {
             IsToldSo B.config self.old.session transcript told result self.new.session) }
     {
         match mem::replace(&mut self.submitted, None) {
-            Some(submitted) => self.state.end(book, submitted, told),
+            Some(submitted) => self.state.end(alloc, book, submitted, told),
             None => {
                 drop(told);
                 Err(Refused {

@@ -1,17 +1,18 @@
 //! What sessions come to and are told, for the reader of their definitions.
-ghost use Rattle.fdb_sections.specs.Examples.{WorkedEndings, WorkedFullBooks, WorkedPlaces, WorkedReasons};
-ghost use Rattle.fdb_sections.specs.Examples.{WorkedRefusals};
+ghost use Rattle.fdb_sections.specs.Examples.{WorkedConflicts, WorkedEndings, WorkedFullBooks, WorkedPlaces};
+ghost use Rattle.fdb_sections.specs.Examples.{WorkedReasons, WorkedRefusals};
 ghost use Rattle.fdb_sections.specs.Examples.{WorkedSessions, WorkedTurnedDown, WorkedUnreadable, WorkedUntaken};
 
 /// What a session comes to that begins and learns, which transactions are turned down, why a session is refused,
-/// when its transaction is open again, when it is told that the book is full, why a shard's thread ended, what a read
-/// is told of an unreadable key, and what calls are refused by, by examples.
+/// when its transaction is open again, when it is told that the book is full, with which points a refusal comes, why a
+/// shard's thread ended, what a read is told of an unreadable key, and what calls are refused by, by examples.
 pub fn worked_examples()
     ensures sessions { WorkedSessions }
     ensures turned_down { WorkedTurnedDown }
     ensures reasons { WorkedReasons }
     ensures untaken { WorkedUntaken }
     ensures full_books { WorkedFullBooks }
+    ensures conflicts { WorkedConflicts }
     ensures places { WorkedPlaces }
     ensures endings { WorkedEndings }
     ensures unreadable { WorkedUnreadable }

@@ -2,6 +2,7 @@ mod answers;
 mod configs;
 mod failing;
 mod growths;
+mod hot_keys;
 mod large;
 mod limits;
 mod lines;

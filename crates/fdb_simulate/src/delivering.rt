@@ -3,7 +3,7 @@ use crate::player::Wish;
 use crate::sim::{Sim, count_of};
 use crate::tally::Tally;
 use fdb_client::Transcript;
-use fdb_keys::{Refusal, Refused};
+use fdb_keys::{RangeSet, Refusal, Refused};
 use fdb_sections::{ClusterName, CommitReply, GrantMessage, GrantReply, Receipt, SentPart};
 use fdb_txn::{Batch, Spot, TxnId};
 use std::alloc::AllocError;
@@ -305,7 +305,7 @@ impl<B: ClusterName> Sim<B> {
         let Some(player) = self.players.get_mut(number as usize) else {
             return drop(told);
         };
-        match player.client.settle(self.cells.limit, told) {
+        match player.client.settle(self.alloc, self.cells.limit, told) {
             Ok(receipt) => self.note_receipt(number, receipt),
             Err(refused) => self.note_refused(number, refused),
         }
@@ -336,9 +336,13 @@ impl<B: ClusterName> Sim<B> {
     }
 
     /// A client's transaction is refused.
-    pub(crate) fn note_refused(&mut self, number: u32, refused: Refused<Option<Transcript>>) {
+    pub(crate) fn note_refused(
+        &mut self,
+        number: u32,
+        refused: Refused<Option<(Transcript, RangeSet)>>,
+    ) {
         let Refused { why, back } = refused;
-        let id = back.as_ref().map(|transcript| id_of(transcript.id));
+        let id = back.as_ref().map(|(transcript, _)| id_of(transcript.id));
         drop(back);
         match why {
             Refusal::NotCommitted | Refusal::TransactionTooOld => {

@@ -52,25 +52,25 @@ const AFTER_REFUSALS: [Append; 4] = [
 
 // Appends to one front of a book of three, which goes on by those that aren't refused: the entry's version, its
 // previous version, its read version and its horizon; the ids; the refusal's numbers, zeros where there is none; how
-// many entries the front shows then.
-type GoneOn = ([u64; 4], &'static [(u32, u64)], (u32, u64), usize);
+// many entries the front shows then, and the horizon of the last one.
+type GoneOn = ([u64; 4], &'static [(u32, u64)], (u32, u64), (usize, u64));
 
 const ONE_FRONT: &[GoneOn] = &[
-    ([100, 0, 0, 0], &[(0, 4), (1, 0)], (0, 0), 1),
-    ([200, 0, 100, 0], &[(0, 5)], (9010, 0), 1),
-    ([200, 100, 100, 0], &[(2, 0), (1, 0)], (9007, 1), 1),
+    ([100, 0, 0, 0], &[(0, 4), (1, 0)], (0, 0), (1, 0)),
+    ([200, 0, 100, 0], &[(0, 5)], (9010, 0), (1, 0)),
+    ([200, 100, 100, 0], &[(2, 0), (1, 0)], (9007, 1), (1, 0)),
     // The horizon isn't below the version.
-    ([200, 100, 100, 200], &[(2, 0)], (9010, 0), 1),
+    ([200, 100, 100, 200], &[(2, 0)], (9010, 0), (1, 0)),
     // The other id of the refused entry isn't there yet.
-    ([200, 100, 100, 199], &[(2, 0)], (0, 0), 2),
+    ([200, 100, 100, 199], &[(2, 0)], (0, 0), (2, 199)),
     // The horizon falls.
-    ([300, 200, 200, 198], &[(0, 3), (1, 1)], (9010, 0), 2),
-    ([300, 200, 200, 199], &[(3, 1), (3, 1)], (9007, 1), 2),
+    ([300, 200, 200, 198], &[(0, 3), (1, 1)], (9010, 0), (2, 199)),
+    ([300, 200, 200, 199], &[(3, 1), (3, 1)], (9007, 1), (2, 199)),
     // A lesser number of a session is as good as a greater one, where it isn't there yet.
-    ([300, 200, 200, 199], &[(0, 3), (1, 1)], (0, 0), 3),
-    ([400, 300, 300, 199], &[(4, 0)], (9006, 0), 3),
-    ([400, 300, 300, 199], &[(0, 3)], (9007, 0), 3),
-    ([400, 200, 300, 199], &[(4, 0)], (9010, 0), 3),
+    ([300, 200, 200, 199], &[(0, 3), (1, 1)], (0, 0), (3, 199)),
+    ([400, 300, 300, 199], &[(4, 0)], (9006, 0), (3, 199)),
+    ([400, 300, 300, 199], &[(0, 3)], (9007, 0), (3, 199)),
+    ([400, 200, 300, 199], &[(4, 0)], (9010, 0), (3, 199)),
 ];
 
 const CAPACITIES: &[(u32, u32)] = &[(0, 9009), (1, 0), (1_048_577, 9009)];
@@ -303,18 +303,18 @@ fn entries_are_appended_to_books_of_two(rt: HostRuntime) -> Result<(), Fail> {
     Ok(())
 }
 
-// Appends to the front itself. Says the refusal's numbers, how many entries the front shows then, and how it agrees
-// with its share, if there is one.
+// Appends to the front itself. Says the refusal's numbers, how many entries the front shows then, the horizon of the
+// last one, and how the front agrees with its share, if there is one.
 fn go_on_itself<B: BookName>(
     alloc: Global,
     book: &Book<B>,
     front: &mut Front<B>,
     row: &GoneOn,
-) -> Result<((u32, u64), usize, Option<Ordering>), Refusal> {
+) -> Result<((u32, u64), (usize, u64), Option<Ordering>), Refusal> {
     let entry = entry_of(alloc, row.0, row.1)?;
     let (numbers, share) = handed_out(book, append_and_share(alloc, book, front, entry));
     let agreed = share.map(|share| agree(front, &share));
-    Ok((numbers, front.len(), agreed))
+    Ok((numbers, (front.len(), front.horizon()), agreed))
 }
 
 fn fill_by_one_front<B: BookName>(rt: &impl Abort, alloc: Global, blank: Blank)

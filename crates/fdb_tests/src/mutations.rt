@@ -158,6 +158,36 @@ static BECOMES: [(Text, u32, Text); 4] = [
     (b"0123", 2, &[b'0', b'1', 0, 0, 0, 0, 0, 0, 1, 2, 0, 3]),
 ];
 
+// Whether the mutation waits for a stamp, and whether it does once it has one.
+fn waits(
+    alloc: Global,
+    mutation: Result<Mutation, Refusal>,
+) -> Result<(bool, Result<bool, u32>), u32> {
+    ask(mutation, |mutation| {
+        let stamped = mutation.stamp(alloc, Stamp::new(258, 3));
+        (
+            mutation.is_stamped(),
+            ask(
+                stamped.map_err(Refusal::from),
+                |stamped| stamped.is_stamped(),
+            ),
+        )
+    })
+}
+
+#[test]
+fn stamped_values_wait_until_they_are_stamped(rt: HostRuntime) {
+    let alloc = rt.alloc();
+    same(
+        &rt,
+        [
+            waits(alloc, Mutation::stamped(alloc, b"a", b"0123456789", 0)),
+            waits(alloc, Mutation::set(alloc, b"a", b"0123456789")),
+        ],
+        [Ok((true, Ok(false))), Ok((false, Ok(false)))],
+    );
+}
+
 #[test]
 fn stamps_take_the_place_of_ten_bytes(rt: HostRuntime) {
     let alloc = rt.alloc();

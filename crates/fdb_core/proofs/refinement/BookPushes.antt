@@ -4,11 +4,12 @@ use Rattle.std.proofs.Common.{◌∷◌, ◌++◌, length, Option, Some, None, u
 use Rattle.std.specs.List.{slice_get}
 use Rattle.std.specs.FinMap.{get}
 use Rattle.std.proofs.lemmas.Option.{same_Some, slice_get_within}
-use Rattle.std.proofs.lemmas.Bool.{cases_lt}
+use Rattle.std.proofs.lemmas.Bool.{cases_lt, true≢false}
 use Rattle.std.proofs.lemmas.List.{length-append, take-append-le}
 use Rattle.fdb_keys.specs.Points.{Point}
+use Rattle.fdb_keys.specs.Ranges.{Range}
 use Rattle.fdb_txn.specs.declared.entry.Entry.{Entry}
-use Rattle.fdb_txn.specs.book.Book.{seen_of, last_version, seen_before, last_horizon}
+use Rattle.fdb_txn.specs.book.Book.{Seen, seen_of, last_version, seen_before, last_horizon}
 use Rattle.fdb_txn.specs.book.History.{AreEntries}
 use Rattle.fdb_txn.proofs.Exports.{entries_go_on, horizons_part}
 use Rattle.fdb_log.specs.declared.message.LogMsg.{LogMsg}
@@ -23,8 +24,8 @@ use Rattle.fdb_core.specs.declared.roles.log.LogRole.{LogRole}
 use Rattle.fdb_core.specs.declared.roles.resolver.ResolverRole.{ResolverRole}
 use Rattle.fdb_core.specs.declared.roles.shard.ShardRole.{ShardRole}
 use Rattle.fdb_machine.specs.machine.Machine.{is_set}
-use Rattle.fdb_core.specs.refinement.Cluster.{BookRefines, messages_on}
-use Rattle.fdb_roles.specs.ProxyStages.{ArePartsOf, position_in}
+use Rattle.fdb_core.specs.refinement.Cluster.{BookRefines, ConflictsRefine, messages_on}
+use Rattle.fdb_roles.specs.ProxyStages.{AreConflictsOn, AreFindsOn, ArePartsOf, position_in}
 use Rattle.fdb_core.specs.refinement.log.Ties.{LogRefines, ShardRefines, LogsRefine}
 use Rattle.fdb_core.specs.refinement.resolver.Resolving.{ResolverRefines, ResolversRefine, PartsRefine}
 use Rattle.fdb_roles.specs.AtBook.{IsResolverAt}
@@ -56,7 +57,7 @@ module _ (book : List Entry) (entry : Entry) where
       at-front : (i : ℕ) (other : Entry) (of : List Part) → i < length book → ArePartsOf splits book i other of
           → ArePartsOf splits (book ++ entry ∷ []) i other of
       at-front i other of early its = subst
-          (λ (before : Rattle.fdb_txn.specs.book.Book.Seen). Rattle.fdb_proxy.specs.Parting.AreParts splits
+          (λ (before : Seen). Rattle.fdb_proxy.specs.Parting.AreParts splits
           (Rattle.fdb_proxy.specs.Verdicts.moves_through before other)
           (position_in i other) other.batch of)
           (sym (seen-front book (entry ∷ []) i (le_of_lt early))) its
@@ -88,9 +89,15 @@ module _ (book : List Entry) (entry : Entry) where
               let early : j < length book = omega
               (arith, slice_get_within role.sent.items j verdicts sent, its.count, its.within) in
               its.sent.rule j verdicts other sent (sym (front-at book (entry ∷ []) j early) ∙ there)
-              ∙ ap (λ (before : Rattle.fdb_txn.specs.book.Book.Seen).
+              ∙ ap (λ (before : Seen).
               Rattle.fdb_proxy.specs.Verdicts.verdicts_on splits i before other)
               (sym (seen-front book (entry ∷ []) j (le_of_lt early)));
+          found = λ j verdicts other sent there.
+              let early : j < length book = omega
+              (arith, slice_get_within role.sent.items j verdicts sent, its.count, its.within) in
+              subst (λ (before : Seen). AreFindsOn splits i before other verdicts.conflicts)
+              (sym (seen-front book (entry ∷ []) j (le_of_lt early)))
+              (its.sent.found j verdicts other sent (sym (front-at book (entry ∷ []) j early) ∙ there));
         };
       }
 
@@ -173,3 +180,44 @@ module _ (book : List Entry) (entry : Entry) where
     where
       flag-front : (i : ℕ) → i < length decided → is_set (decided ++ false ∷ []) i ≡ is_set decided i
       flag-front i early = ap (λ (flag : Option Bool). unwrap_or flag false) (front-at decided (false ∷ []) i early)
+
+  -- it isn't decided, so it has no conflict sets yet
+  pub conflicts-push : (splits : List Point) (decided : List Bool) (conflicts : List (List (List Range)))
+      → length decided ≡ length book → ConflictsRefine splits book decided conflicts
+      → ConflictsRefine splits (book ++ entry ∷ []) (decided ++ false ∷ []) (conflicts ++ [] ∷ [])
+  conflicts-push splits decided conflicts flagged ok = record {
+    each_kept = omega (arith, length-append conflicts ([] ∷ []), length-append book (entry ∷ []), ok.each_kept);
+    by_rule = λ i other of there done its. ⊎_elim
+        (λ early.
+        let flag = flag-front i (omega (arith, early, flagged)) in
+        subst (λ (before : Seen). AreConflictsOn splits before other of)
+        (sym (seen-front book (entry ∷ []) i (le_of_lt early)))
+        (ok.by_rule i other of (sym (front-at book (entry ∷ []) i early) ∙ there) (sym flag ∙ done)
+        (kept-front i of early its)))
+        (λ late.
+        let inside = slice_get_within (book ++ entry ∷ []) i other there in
+        let last : i ≡ length decided =
+        omega (arith, late, inside, length-append book (entry ∷ []), flagged) in
+        absurd (true≢false (sym done ∙ flag-last i last)))
+        (cases_lt i (length book));
+    undecided = λ i of waits its. ⊎_elim
+        (λ early. ok.undecided i of (sym (flag-front i (omega (arith, early, flagged))) ∙ waits)
+        (kept-front i of early its))
+        (λ late.
+        let inside = slice_get_within (conflicts ++ [] ∷ []) i of its in
+        let last : i ≡ length conflicts =
+        omega (arith, late, inside, length-append conflicts ([] ∷ []), ok.each_kept) in
+        sym (same_Some [] of (sym (ap (slice_get (conflicts ++ [] ∷ [])) last ∙ last-at conflicts []) ∙ its)))
+        (cases_lt i (length book));
+  }
+    where
+      flag-front : (i : ℕ) → i < length decided → is_set (decided ++ false ∷ []) i ≡ is_set decided i
+      flag-front i early = ap (λ (flag : Option Bool). unwrap_or flag false) (front-at decided (false ∷ []) i early)
+
+      flag-last : (i : ℕ) → i ≡ length decided → is_set (decided ++ false ∷ []) i ≡ false
+      flag-last i last = ap (is_set (decided ++ false ∷ [])) last
+          ∙ ap (λ (flag : Option Bool). unwrap_or flag false) (last-at decided false)
+
+      kept-front : (i : ℕ) (of : List (List Range)) → i < length book
+          → slice_get (conflicts ++ [] ∷ []) i ≡ Some of → slice_get conflicts i ≡ Some of
+      kept-front i of early its = sym (front-at conflicts ([] ∷ []) i (omega (arith, early, ok.each_kept))) ∙ its

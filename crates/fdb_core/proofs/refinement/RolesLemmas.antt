@@ -29,4 +29,5 @@ roles-refine k before roles commit_proxies resolvers logs = record {
   commit_proxies = commit_proxies;
   grv_proxies = before.grv_proxies;
   opened = before.opened;
+  conflicts = before.conflicts;
 }

@@ -1,7 +1,9 @@
 -- The cluster of a world as the machine, and what ties the roles' own lists to it.
-use Rattle.std.specs.Prelude.{◌≡◌, ℕ, ◌+◌, ◌<◌, ◌≤◌, Bool, List, map, length, Option, Some, None, slice_get}
-use Rattle.std.specs.Prelude.{if◌then◌else◌, suc}
+use Rattle.std.specs.Prelude.{◌≡◌, ℕ, ◌+◌, ◌<◌, ◌≤◌, Bool, true, false, List, [], map, length, Option, Some, None}
+use Rattle.std.specs.Prelude.{slice_get, if◌then◌else◌, suc}
 use Rattle.std.specs.List.{AllByRecursion}
+use Rattle.fdb_keys.specs.Points.{Point}
+use Rattle.fdb_keys.specs.Ranges.{Range}
 use Rattle.fdb_txn.specs.declared.entry.Entry.{Entry}
 use Rattle.fdb_txn.specs.declared.entry.Move.{Move}
 use Rattle.fdb_txn.specs.book.History.{AreEntries, HorizonsRise}
@@ -13,6 +15,7 @@ use Rattle.fdb_proxy.specs.declared.config.Config.{Config}
 use Rattle.fdb_proxy.specs.Askers.{Asker}
 use Rattle.fdb_roles.specs.Entries.{moves_in}
 use Rattle.fdb_roles.specs.Legal.{IsLegal}
+use Rattle.fdb_roles.specs.ProxyStages.{AreConflictsOn}
 use Rattle.fdb_core.specs.declared.cluster.Cluster.{Cluster}
 use Rattle.fdb_core.specs.declared.roles.commit_proxy.CommitProxyRole.{CommitProxyRole}
 use Rattle.fdb_machine.specs.machine.Machine.{Machine, is_set}
@@ -62,6 +65,16 @@ pub record BookRefines (config : Config) (book : List Entry) (entry_proxies : Li
       ≡ Some (if is_set decided i then Some (messages_on config i (seen_before book i) entry) else None)
   pub horizons : HorizonsRise 0 book
 
+-- for each entry the conflict sets of its places, once it is decided
+pub record ConflictsRefine (splits : List Point) (book : List Entry) (decided : List Bool)
+    (conflicts : List (List (List Range))) : Type 0 where
+  pub each_kept : length conflicts ≡ length book
+  pub by_rule : (i : ℕ) (entry : Entry) (of : List (List Range)) → slice_get book i ≡ Some entry
+      → is_set decided i ≡ true → slice_get conflicts i ≡ Some of
+      → AreConflictsOn splits (seen_before book i) entry of
+  pub undecided : (i : ℕ) (of : List (List Range)) → is_set decided i ≡ false → slice_get conflicts i ≡ Some of
+      → of ≡ []
+
 -- the sequencer gave each entry its ticket
 pub record SequencerRefines (config : Config) (book : List Entry) (sequencer : Sequencer) : Type 0 where
   pub proxies : sequencer.proxies ≡ config.proxies
@@ -104,3 +117,4 @@ pub record Refines (k : Cluster) : Type 0 where
   pub commit_proxies : CommitProxiesRefine k.config k.book.items (known_to k.sequencer) k.commit_proxies.items
   pub grv_proxies : GrvProxiesRefine k.config k.grv_proxies.items
   pub opened : EachOpen (ReadsWithin k.sequencer.committed) k.sessions
+  pub conflicts : ConflictsRefine k.config.resolver_splits k.book.items k.decided.items k.conflicts.items

@@ -15,7 +15,7 @@ use crate::roles::commit_proxy::submitting::take_in;
 use fdb_client::Transcript;
 use fdb_keys::{Items, Refusal};
 use fdb_log::{LogAck, LogMsg};
-use fdb_proxy::{CommitCore, Config, Outcome};
+use fdb_proxy::{CommitCore, Config, Decision, Outcome};
 use fdb_resolver::{Part, Verdicts};
 use fdb_sequencer::Ticket;
 use fdb_txn::{Batch, TxnId};
@@ -165,10 +165,10 @@ impl CommitProxyRole {
         self.state.verdict(verdicts)
     }
 
-    /// Decides the batch. Answers what becomes of each place, and the messages for the logs. Refused as `WrongState`
-    /// unless the batch waits for verdicts, as `NotYet` with the least resolver that is asked about some place and
-    /// whose verdicts haven't come, and as `NoMemory`. Then nothing changes.
-    pub(crate) fn decide(&mut self) -> Result<(Items<Outcome>, Items<LogMsg>), Refusal>
+    /// Decides the batch. Answers what becomes of each place, with the conflict sets, and the messages for the logs.
+    /// Refused as `WrongState` unless the batch waits for verdicts, as `NotYet` with the least resolver that is asked
+    /// about some place and whose verdicts haven't come, and as `NoMemory`. Then nothing changes.
+    pub(crate) fn decide(&mut self) -> Result<(Decision, Items<LogMsg>), Refusal>
         ensures wrong { (config : Config) (book : List Entry) (known : Known)
             → CommitProxyRefines config book known self.old → is_resolving (seen_as self.old).stage ≡ false
             → result ≡ Err WrongState }

@@ -77,10 +77,12 @@ impl ResolverRole {
     {
         let sent = &self.sent[entry];
         let answers = Items::from_vec(Vec::from_slice(alloc, sent.answers.as_slice())?);
+        let conflicts = sent.conflicts.clone()?;
         Ok(Verdicts {
             resolver: sent.resolver,
             index: sent.index,
             answers,
+            conflicts,
         })
     }
 }

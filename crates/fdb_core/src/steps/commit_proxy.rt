@@ -16,9 +16,10 @@ use crate::cluster::Cluster;
 use crate::roles::commit_proxy::Sender;
 use crate::roles::commit_proxy::replying::{place_all, reply_all, tell_all};
 use crate::roles::sequencer::{issue, take_report};
-use fdb_keys::{Items, Refusal};
+use fdb_keys::{Items, RangeSet, Refusal};
 use fdb_log::{LogAck, LogMsg};
 use fdb_machine::Answered;
+use fdb_proxy::Decision;
 use fdb_resolver::Part;
 use fdb_sequencer::Ticket;
 use fdb_txn::Entry;
@@ -59,6 +60,7 @@ impl Cluster {
             &mut self.decided,
             &mut self.parts,
             &mut self.messages,
+            &mut self.conflicts,
         )?;
         let commit_proxy = &mut self.commit_proxies[proxy as usize];
         let (batch, parts) = commit_proxy.seal(self.alloc, &ticket)?;
@@ -87,6 +89,7 @@ impl Cluster {
             &mut self.parts,
             &mut self.messages,
         );
+        self.conflicts.push_reserved(Items::new(self.alloc));
         Ok(Answered::Issued {
             index,
             version,
@@ -169,8 +172,13 @@ impl Cluster {
             return Err(Refusal::Failed);
         }
         let i = self.commit_proxies[at].entry as usize;
-        let (outcomes, messages) = self.commit_proxies[at].decide()?;
+        let (decision, messages) = self.commit_proxies[at].decide()?;
+        let Decision {
+            outcomes,
+            conflicts,
+        } = decision;
         self.messages[i] = Some(messages);
+        self.conflicts[i] = conflicts;
         self.decided[i] = true;
         Ok(Answered::Decided(outcomes))
     }
@@ -237,22 +245,26 @@ fn make_room(
     decided: &mut Vec<bool>,
     pooled: &mut Vec<Items<Part>>,
     messages: &mut Vec<Option<Items<LogMsg>>>,
+    conflicts: &mut Vec<Items<RangeSet>>,
 ) -> Result<(), AllocError>
     ensures book { book.new.items ≡ book.old.items }
     ensures entry_proxies { entry_proxies.new.items ≡ entry_proxies.old.items }
     ensures decided { decided.new.items ≡ decided.old.items }
     ensures parts { pooled.new.items ≡ pooled.old.items }
     ensures messages { messages.new.items ≡ messages.old.items }
+    ensures conflicts { conflicts.new.items ≡ conflicts.old.items }
     ensures room { OnOk result ((vec_len book.new + 1 ≤ vec_capacity book.new)
         × (vec_len entry_proxies.new + 1 ≤ vec_capacity entry_proxies.new)
         × (vec_len decided.new + 1 ≤ vec_capacity decided.new) × (vec_len pooled.new + 1 ≤ vec_capacity pooled.new)
-        × (vec_len messages.new + 1 ≤ vec_capacity messages.new)) }
+        × (vec_len messages.new + 1 ≤ vec_capacity messages.new)
+        × (vec_len conflicts.new + 1 ≤ vec_capacity conflicts.new)) }
 {
     book.reserve(1)?;
     entry_proxies.reserve(1)?;
     decided.reserve(1)?;
     pooled.reserve(1)?;
-    messages.reserve(1)
+    messages.reserve(1)?;
+    conflicts.reserve(1)
 }
 
 // One more entry is of the proxy and has the parts. It isn't decided, so there are no messages of it yet. There is room

@@ -125,7 +125,7 @@ not_named word others other kind is =
     let first : true ≡ false = ap (λ (named : List ℕ). get_or named 0 0 == 112) (ap name_of (sym same) ∙ is) ∙ other in
     cc
 
--- no kind of steps is named "drive", and none "show"
+-- no kind of steps is named "drive", none "show", and none "conflict"
 not_drive : (kind : Kind) → name_of kind ≢ codes "drive"
 unfolding letters_of
 not_drive kind is = not_named (codes "drive") refl refl kind is
@@ -134,14 +134,25 @@ not_show : (kind : Kind) → name_of kind ≢ codes "show"
 unfolding letters_of
 not_show kind is = not_named (codes "show") refl refl kind is
 
+not_conflict : (kind : Kind) → name_of kind ≢ codes "conflict"
+unfolding letters_of
+not_conflict kind is = not_named (codes "conflict") refl refl kind is
+
 -- a line without words gives nothing
 pub no_words : (line : List ℕ) → words_of line ≡ [] → (read : Line) → ¬ WritesLine line read
 no_words line none (given.Step kind step) written = cc
 no_words line none (given.Drive proxy) written = cc
 no_words line none (given.Show session) written = cc
+no_words line none (given.Conflict session) written = cc
 
 drive_is_not_show : codes "drive" ≢ codes "show"
 drive_is_not_show is = both_ways false refl ((bytes_decides (codes "drive") (codes "show")).1 is)
+
+drive_is_not_conflict : codes "drive" ≢ codes "conflict"
+drive_is_not_conflict is = both_ways false refl ((bytes_decides (codes "drive") (codes "conflict")).1 is)
+
+show_is_not_conflict : codes "show" ≢ codes "conflict"
+show_is_not_conflict is = both_ways false refl ((bytes_decides (codes "show") (codes "conflict")).1 is)
 
 -- a line whose first word is "drive", and whose other words are no number
 pub no_proxy : (line : List ℕ) (after : List (List ℕ)) → words_of line ≡ codes "drive" ∷ after
@@ -152,6 +163,8 @@ no_proxy line after words_are none (given.Drive proxy) written =
     none proxy (rw (after_first (sym words_are ∙ written.1)) written.2)
 no_proxy line after words_are none (given.Show session) written =
     drive_is_not_show (first_of (sym words_are ∙ written.1))
+no_proxy line after words_are none (given.Conflict session) written =
+    drive_is_not_conflict (first_of (sym words_are ∙ written.1))
 
 -- the same of "show"
 pub no_session : (line : List ℕ) (after : List (List ℕ)) → words_of line ≡ codes "show" ∷ after
@@ -162,23 +175,40 @@ no_session line after words_are none (given.Drive proxy) written =
     drive_is_not_show (sym (first_of (sym words_are ∙ written.1)))
 no_session line after words_are none (given.Show session) written =
     none session (rw (after_first (sym words_are ∙ written.1)) written.2)
+no_session line after words_are none (given.Conflict session) written =
+    show_is_not_conflict (first_of (sym words_are ∙ written.1))
+
+-- and of "conflict"
+pub no_refused : (line : List ℕ) (after : List (List ℕ)) → words_of line ≡ codes "conflict" ∷ after
+    → ((session : ℕ) → ¬ WritesOne after session) → (read : Line) → ¬ WritesLine line read
+no_refused line after words_are none (given.Step kind step) written = not_conflict kind
+    (sym (first_of (sym words_are ∙ written.1)))
+no_refused line after words_are none (given.Drive proxy) written =
+    drive_is_not_conflict (sym (first_of (sym words_are ∙ written.1)))
+no_refused line after words_are none (given.Show session) written =
+    show_is_not_conflict (sym (first_of (sym words_are ∙ written.1)))
+no_refused line after words_are none (given.Conflict session) written =
+    none session (rw (after_first (sym words_are ∙ written.1)) written.2)
 
 -- a line whose first word is another one
 pub line_of_step : (line first : List ℕ) (after : List (List ℕ)) (fault : Fault) → words_of line ≡ first ∷ after
-    → first ≢ codes "drive" → first ≢ codes "show"
+    → first ≢ codes "drive" → first ≢ codes "show" → first ≢ codes "conflict"
     → Reads {T = Kind × Step} (Err fault) (λ read. WritesStep (first ∷ after) read.0 read.1) (λ read. step_fault read.1)
     → Reads (Err fault) (WritesLine line) read_fault
-line_of_step line first after fault words_are no_drive no_show found =
+line_of_step line first after fault words_are no_drive no_show no_conflict found =
     Reads-whole {Part = Kind × Step} fault _ _ (WritesLine line) read_fault found
-    (no_line line first after words_are no_drive no_show)
+    (no_line line first after words_are no_drive no_show no_conflict)
     (λ read written. (given.Step read.0 read.1, rw words_are written, refl))
   where
     no_line : (line first : List ℕ) (after : List (List ℕ)) → words_of line ≡ first ∷ after → first ≢ codes "drive"
-        → first ≢ codes "show" → ((read : Kind × Step) → ¬ WritesStep (first ∷ after) read.0 read.1) → (read : Line)
+        → first ≢ codes "show" → first ≢ codes "conflict"
+        → ((read : Kind × Step) → ¬ WritesStep (first ∷ after) read.0 read.1) → (read : Line)
         → ¬ WritesLine line read
-    no_line line first after words_are no_drive no_show none (given.Step kind step) written = none (kind, step)
-        (rw (sym words_are) written)
-    no_line line first after words_are no_drive no_show none (given.Drive proxy) written = no_drive
+    no_line line first after words_are no_drive no_show no_conflict none (given.Step kind step) written =
+        none (kind, step) (rw (sym words_are) written)
+    no_line line first after words_are no_drive no_show no_conflict none (given.Drive proxy) written = no_drive
         (first_of (sym words_are ∙ written.1))
-    no_line line first after words_are no_drive no_show none (given.Show session) written = no_show
+    no_line line first after words_are no_drive no_show no_conflict none (given.Show session) written = no_show
+        (first_of (sym words_are ∙ written.1))
+    no_line line first after words_are no_drive no_show no_conflict none (given.Conflict session) written = no_conflict
         (first_of (sym words_are ∙ written.1))

@@ -27,6 +27,7 @@ bad-words line words is none =
     line_of_step line (codes "write") (codes "0" ∷ words) fault.Bad is
     (λ same. both_ways false refl ((bytes_decides (codes "write") (codes "drive")).1 same))
     (λ same. both_ways false refl ((bytes_decides (codes "write") (codes "show")).1 same))
+    (λ same. both_ways false refl ((bytes_decides (codes "write") (codes "conflict")).1 same))
     (step_of_rest (codes "write") (codes "0" ∷ words) Write fault.Bad refl
     (number_fault (λ mutation rest. WritesMutation rest mutation) mutation_fault made.Write step_fault
     (codes "0" ∷ words) words 0 fault.Bad (codes "0", refl, zero_written) (λ mutation. refl) none))

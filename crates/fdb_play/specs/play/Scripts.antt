@@ -3,12 +3,14 @@ use Rattle.std.specs.Prelude.{◌≡◌, ℕ, suc, ◌==◌, Bool, true, false, 
 use Rattle.std.specs.Prelude.{IfSome, Result, ◌⊎◌, codes}
 use Rattle.std.specs.Io.KnownBytes.{Appends}
 use Rattle.std.specs.Fmt.{decimal}
+use Rattle.fdb_keys.specs.Ranges.{Range}
 use Rattle.fdb_keys.specs.declared.refusal.Refusal.{Refusal}
 use Rattle.fdb_keys.specs.declared.refusal.Refusal.TheVariants.{NoMemory}
 use Rattle.fdb_proxy.specs.declared.config.Config.{Config}
 use Rattle.fdb_proxy.specs.Configs.{config_fault}
 use Rattle.fdb_machine.specs.declared.step.Answered.{Answered}
 use Rattle.fdb_machine.specs.machine.AnyStep.{Step}
+use Rattle.fdb_machine.specs.machine.Conflicts.{IsConflictOf}
 use Rattle.fdb_machine.specs.machine.Failures.{State}
 use Rattle.fdb_machine.specs.machine.Worlds.{IsStep, first_state}
 use Rattle.fdb_print.specs.Stops.{refused_line, printed_line, bad_line, stop_text}
@@ -19,7 +21,7 @@ use Rattle.fdb_play.specs.declared.script.step_line.Kind.TheVariants.{Answer}
 use Rattle.fdb_print.specs.declared.stop.Stop.{Stop}
 use Rattle.fdb_play.specs.print.Answers.{result_text}
 use Rattle.fdb_play.specs.script.Configs.{WritesConfig, line_fault}
-use Rattle.fdb_play.specs.print.Sets.{shown_text}
+use Rattle.fdb_play.specs.print.Sets.{conflict_text, shown_text}
 use Rattle.fdb_play.specs.play.Driving.{Drives}
 use Rattle.fdb_play.specs.play.Showing.{lent}
 use Rattle.fdb_play.specs.script.Grammar.{WritesLine, read_fault, step_fault}
@@ -73,10 +75,17 @@ ShowsSets line old printed new =
     (session : ℕ) × WritesLine line (given.Show session) × (new ≡ old)
     × (printed ≡ printed_line (shown_text (lent old session)))
 
+-- the line shows the conflict set of a session's last transaction, and the world stays as it is
+abbrev pub ShowsConflict : List ℕ → State → List ℕ → State → Type 0
+ShowsConflict line old printed new =
+    (session : ℕ) × (conflict : Option (List Range)) × WritesLine line (given.Conflict session) × (new ≡ old)
+    × IsConflictOf old.machine session conflict × (printed ≡ printed_line (conflict_text conflict))
+
 -- what a line after the configuration prints, and the world that it leaves
 abbrev pub AnswersLine : List ℕ → State → List ℕ → State → Type 0
 AnswersLine line old printed new = TakesStep line old printed new
-    ⊎ (DrivesBatch line old printed new ⊎ (ShowsSets line old printed new ⊎ RefusesKey line old printed new))
+    ⊎ (DrivesBatch line old printed new ⊎ (ShowsSets line old printed new
+    ⊎ (ShowsConflict line old printed new ⊎ RefusesKey line old printed new)))
 
 -- what a line after the configuration prints that ends the script
 abbrev pub StopsAt : ℕ → List ℕ → List ℕ → ℕ → Type 0

@@ -1,8 +1,9 @@
--- How the read set and the write set of a transaction are printed.
-use Rattle.std.specs.Prelude.{ℕ, List, ◌++◌, codes, Result, Ok, Err}
+-- How the read set and the write set of a transaction are printed, and its conflict set.
+use Rattle.std.specs.Prelude.{ℕ, List, ◌++◌, codes, Option, Some, None, Result, Ok, Err}
 use Rattle.std.specs.List.{flat_map}
 use Rattle.fdb_keys.specs.Ranges.{Range}
 use Rattle.fdb_keys.specs.declared.refusal.Refusal.{Refusal}
+use Rattle.fdb_keys.specs.declared.refusal.Refusal.TheVariants.{NoTransaction}
 use Rattle.fdb_client.specs.Programs.{program, replies_of, read_ranges, write_ranges}
 use Rattle.fdb_client.specs.declared.program.Transcript.{Transcript}
 use Rattle.fdb_print.specs.Refusals.{refusal_text}
@@ -26,3 +27,8 @@ sets_text transcript =
 abbrev pub shown_text : Result Transcript Refusal → List ℕ
 shown_text (Ok transcript) = sets_text transcript
 shown_text (Err refusal) = refusal_text refusal
+
+-- the conflict set of a refused transaction, or that there is none
+abbrev pub conflict_text : Option (List Range) → List ℕ
+conflict_text (Some set) = codes "conflict" ++ ranges_text set
+conflict_text None = refusal_text NoTransaction

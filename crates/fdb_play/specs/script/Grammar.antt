@@ -177,11 +177,16 @@ WritesDrive words proxy = (rest : List (List ℕ)) × (words ≡ codes "drive" �
 abbrev pub WritesShow : List (List ℕ) → ℕ → Type 0
 WritesShow words session = (rest : List (List ℕ)) × (words ≡ codes "show" ∷ rest) × WritesOne rest session
 
+-- the words are 'conflict' and the number of a session
+abbrev pub WritesConflict : List (List ℕ) → ℕ → Type 0
+WritesConflict words session = (rest : List (List ℕ)) × (words ≡ codes "conflict" ∷ rest) × WritesOne rest session
+
 -- the line writes what it gives
 abbrev pub WritesLine : List ℕ → Line → Type 0
 WritesLine line (given.Step kind step) = WritesStep (words_of line) kind step
 WritesLine line (given.Drive proxy) = WritesDrive (words_of line) proxy
 WritesLine line (given.Show session) = WritesShow (words_of line) session
+WritesLine line (given.Conflict session) = WritesConflict (words_of line) session
 
 -- why the bounds of the range are those of none
 abbrev pub bounds_fault : Range → Option Refusal
@@ -224,3 +229,4 @@ abbrev pub read_fault : Line → Option Refusal
 read_fault (given.Step kind step) = step_fault step
 read_fault (given.Drive proxy) = None
 read_fault (given.Show session) = None
+read_fault (given.Conflict session) = None

@@ -11,7 +11,7 @@ ghost use Rattle.fdb_print.specs.Stops.{printed_line};
 ghost use Rattle.fdb_play.specs.play.Scripts.{Unconfigured, StopsAt, Printed, Knows, Says, Reaches};
 
 use crate::play::driving::drive;
-use crate::play::showing::push_shown;
+use crate::play::showing::{push_conflict, push_shown};
 use crate::print::answers::{push_refusal, push_result};
 use crate::print::endings::print_check;
 use crate::script::config_line::read_config;
@@ -220,6 +220,7 @@ fn take_line<R: Source + Drop>(
         Ok(Line::Step { kind, step }) => Ok(push_result(text, kind, world.step(step))?),
         Ok(Line::Drive { proxy }) => Ok(push_result(text, Kind::Answer, drive(world, proxy))?),
         Ok(Line::Show { session }) => Ok(push_shown(text, world, session)?),
+        Ok(Line::Conflict { session }) => Ok(push_conflict(text, world, session)?),
         Err(Fault::Refused(refusal)) => Ok(push_refusal(text, refusal)?),
         Err(Fault::Bad) => Err(Stop::BadLine(lines.number())),
         Err(Fault::NoMemory) => Err(Stop::NoMemory),

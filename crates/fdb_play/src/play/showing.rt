@@ -1,11 +1,14 @@
-// The sets of an open transaction. Showing them is no step: the world stays as it is.
-ghost use Rattle.std.specs.Prelude.{◌≡◌, ◌++◌, Ok, Err, MatchResult, OnOk, string_bytes};
+// The sets of an open transaction, and the conflict set of a refused one. Showing them is no step: the world stays as it
+// is.
+ghost use Rattle.std.specs.Prelude.{◌≡◌, ◌++◌, List, Option, Ok, Err, MatchResult, OnOk, string_bytes};
+ghost use Rattle.fdb_keys.specs.Ranges.{Range};
+ghost use Rattle.fdb_machine.specs.machine.Conflicts.{IsConflictOf};
 ghost use Rattle.fdb_print.specs.Stops.{printed_line};
 ghost use Rattle.fdb_play.specs.play.Showing.{lent};
-ghost use Rattle.fdb_play.specs.print.Sets.{shown_text};
+ghost use Rattle.fdb_play.specs.print.Sets.{conflict_text, shown_text};
 
 use crate::print::answers::push_refusal;
-use crate::print::sets::push_sets;
+use crate::print::sets::{push_list, push_sets};
 use fdb_client::Txn;
 use fdb_core::World;
 use fdb_keys::Refusal;
@@ -33,5 +36,21 @@ fn open_transaction(world: &World, session: u32) -> Result<&Txn, Refusal>
     match world.txn(session) {
         Some(txn) => Ok(txn),
         None => Err(Refusal::NoTransaction),
+    }
+}
+
+/// Appends the conflict set of the session's last transaction, or that there is none, as a line.
+pub fn push_conflict(text: &mut String, world: &World, session: u32) -> Result<(), AllocError>
+    ensures { OnOk result ((conflict : Option (List Range))
+        × IsConflictOf world.now.state.machine session conflict
+        × (string_bytes text.new ≡ string_bytes text.old ++ printed_line (conflict_text conflict))) }
+{
+    match world.conflict(session) {
+        Some(set) => {
+            text.push_str("conflict")?;
+            push_list(text, set.iter().as_slice())?;
+            text.push('\n')
+        }
+        None => push_refusal(text, Refusal::NoTransaction),
     }
 }

@@ -26,7 +26,8 @@ fn push_ranges(text: &mut String, set: &ConflictSet) -> Result<(), AllocError>
     }
 }
 
-fn push_list(text: &mut String, ranges: &[KeyRange]) -> Result<(), AllocError>
+/// Appends the ranges, each after a blank.
+pub fn push_list(text: &mut String, ranges: &[KeyRange]) -> Result<(), AllocError>
     ensures { OnOk result (string_bytes text.new ≡ string_bytes text.old ++ ranges_text ranges.now) }
 {
     for range in ranges {

@@ -17,6 +17,8 @@ pub enum Line {
     Drive { proxy: u32 },
     /// The read set and the write set of a session's open transaction.
     Show { session: u32 },
+    /// The conflict set of a session's last transaction.
+    Conflict { session: u32 },
 }
 
 /// What the line gives. A line of another form is bad, also where its key would be refused. Refused as
@@ -33,6 +35,10 @@ pub fn read_line(alloc: Global, line: &[u8]) -> Result<Line, Fault>
     if first == b"show".as_slice() {
         let session = words.last_number()?;
         return Ok(Line::Show { session });
+    }
+    if first == b"conflict".as_slice() {
+        let refused = words.last_number()?;
+        return Ok(Line::Conflict { session: refused });
     }
     let (kind, step) = read_step(alloc, first, &mut words)?;
     Ok(Line::Step { kind, step })

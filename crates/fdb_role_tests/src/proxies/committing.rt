@@ -12,7 +12,7 @@ use fdb_making::{
     split_config,
 };
 use fdb_mutations::Mutation;
-use fdb_proxy::{CommitCore, Outcome};
+use fdb_proxy::{CommitCore, Decision, Outcome};
 use fdb_resolver::{Part, Verdict, Verdicts};
 use fdb_sequencer::Ticket;
 use fdb_txn::{Batch, Sealed, TxnId};
@@ -44,8 +44,12 @@ enum Act {
     Parts,
     // The resolver's verdict on place 0 of the entry with the index.
     Say(u32, u32, Verdict),
+    // The resolver's verdict on place 0 of the first entry is that it conflicts, at the key alone.
+    Find(u32, &'static [u8]),
     // What becomes of the one transaction.
     Decide(Placed),
+    // It conflicts, at the points of these ranges.
+    DecideConflict(&'static [(&'static [u8], &'static [u8])]),
     // How many mutations each log is sent, each of which gives a the value 1.
     Messages([usize; 2]),
     // Both in one.
@@ -148,6 +152,22 @@ const ASKING: &[&[(Act, Told)]] = &[
         (Act::Done(4, Err(1020)), YES),
         (Act::Has(&[]), YES),
         (Act::Done(0, Err(0)), Err((9014, 0))),
+    ],
+    // A conflict has what all resolvers found, and nothing where none found any.
+    &[
+        (Act::Find(1, b"z"), YES),
+        (Act::Find(0, b"a"), YES),
+        (Act::DecideConflict(&[(b"a", b"a\0"), (b"z", b"z\0")]), YES),
+    ],
+    &[
+        (Act::Say(0, 0, Verdict::Yes), YES),
+        (Act::Find(1, b"z"), YES),
+        (Act::DecideConflict(&[(b"z", b"z\0")]), YES),
+    ],
+    &[
+        (Act::Say(0, 0, Verdict::Conflict), YES),
+        (Act::Say(1, 0, Verdict::Yes), YES),
+        (Act::DecideConflict(&[]), YES),
     ],
     // A commit is sent to the log of its shard.
     &[
@@ -351,7 +371,16 @@ pub fn verdicts_of(
         resolver,
         index,
         answers,
+        conflicts: Items::new(alloc),
     })
+}
+
+// The resolver says that place 0 of the first entry conflicts, at the key.
+fn find(core: &mut CommitCore, alloc: Global, resolver: u32, key: &[u8]) -> Result<(), Refusal> {
+    let mut verdicts = verdicts_of(alloc, resolver, 0, Verdict::Conflict)?;
+    let found = one_key(alloc, key)?;
+    verdicts.conflicts.push((0, found))?;
+    core.verdict(verdicts)
 }
 
 // Takes that verdict.
@@ -366,9 +395,9 @@ fn say(
     core.verdict(verdicts)
 }
 
-fn is_outcome(outcomes: Result<Items<Outcome>, Refusal>, wanted: Placed) -> Result<bool, Refusal> {
-    let outcomes = outcomes?;
-    match outcomes.as_slice() {
+fn is_outcome(decision: Result<Decision, Refusal>, wanted: Placed) -> Result<bool, Refusal> {
+    let decision = decision?;
+    match decision.outcomes.as_slice() {
         [outcome] => Ok(placed(*outcome) == wanted),
         _ => Ok(false),
     }
@@ -406,14 +435,27 @@ fn are_messages(
     }
 }
 
+// Whether the one transaction conflicts, at just the points of the ranges.
+fn is_conflict(
+    decision: Result<Decision, Refusal>,
+    ranges: &[(&[u8], &[u8])],
+) -> Result<bool, Refusal> {
+    let decision = decision?;
+    let are_same = match decision.conflict(0) {
+        Some(set) => are_ranges(set.iter().as_slice(), ranges),
+        None => ranges.is_empty(),
+    };
+    Ok(are_same && is_outcome(Ok(decision), Err(1020))?)
+}
+
 fn is_decided(
-    decided: Result<(Items<Outcome>, Items<LogMsg>), Refusal>,
+    decided: Result<(Decision, Items<LogMsg>), Refusal>,
     wanted: Placed,
     counts: [usize; 2],
 ) -> Result<bool, Refusal> {
-    let (outcomes, messages) = decided?;
+    let (decision, messages) = decided?;
     let is_sent = are_messages(Ok(messages), counts)?;
-    Ok(is_sent && is_outcome(Ok(outcomes), wanted)?)
+    Ok(is_sent && is_outcome(Ok(decision), wanted)?)
 }
 
 fn is_answer(
@@ -434,6 +476,7 @@ fn change(core: &mut CommitCore, alloc: Global, act: &Act) -> Result<(), Refusal
         Act::Reserve => core.reserve(),
         Act::Submit(session) => submit(core, alloc, session),
         Act::Say(resolver, index, verdict) => say(core, alloc, resolver, index, verdict),
+        Act::Find(resolver, key) => find(core, alloc, resolver, key),
         Act::Acknowledge(log) => core.logged(LogAck { log, index: 0 }),
         Act::AllLogged => core.all_logged(),
         Act::Unseal => {
@@ -460,6 +503,7 @@ fn act_on(core: &mut CommitCore, alloc: Global, act: &Act) -> Result<bool, Refus
         Act::RefuseAll(sessions) => Ok(are_of_sessions(core.refuse_all(), sessions)),
         Act::Parts => are_write_and_read(core.parts()),
         Act::Decide(wanted) => is_outcome(core.decide(), wanted),
+        Act::DecideConflict(ranges) => is_conflict(core.decide(), ranges),
         Act::Messages(counts) => are_messages(core.messages(), counts),
         Act::DecideWithMessages(wanted, counts) => {
             is_decided(core.decide_with_messages(), wanted, counts)

@@ -10,6 +10,7 @@ ghost use Rattle.fdb_proxy.specs.CommitProxies.{seal_fault, sealing, unsealing, 
 ghost use Rattle.fdb_proxy.specs.CommitProxies.{parts_fault, parts_in, with_verdict};
 ghost use Rattle.fdb_proxy.specs.CommitProxies.{decide_fault, deciding, messages_fault, messages_of, done_fault};
 ghost use Rattle.fdb_proxy.specs.CommitProxies.{answers_in, finishing};
+ghost use Rattle.fdb_proxy.specs.Conflicts.{set_at};
 ghost use Rattle.fdb_sections.specs.CommitProxiesAtFronts.{verdict_fault, ack_fault};
 ghost use Rattle.fdb_sections.specs.CommitProxiesAtFronts.{AreLastParts, AreLastMessages, AreOutcomes};
 ghost use Rattle.fdb_sections.specs.CommitMachines.{sent_parts, sent_messages, report_fault};
@@ -30,13 +31,13 @@ use crate::roles::commit_proxy::ticketing::is_ticket_of;
 use crate::roles::log::AckMessage;
 use crate::roles::sequencer::Reported;
 use fdb_book::Book;
-use fdb_keys::{Items, Refusal, Refused};
+use fdb_keys::{Items, RangeSet, Refusal, Refused};
 use fdb_log::LogMsg;
-use fdb_proxy::{CommitCore, Config, Outcome};
+use fdb_proxy::{CommitCore, Config, Decision, Outcome};
 use fdb_resolver::Part;
 use fdb_sequencer::Ticket;
 use fdb_txn::{Batch, Sealed, TxnId};
-use std::alloc::Global;
+use std::alloc::{AllocError, Global};
 use std::collections::VecDeque;
 use std::marker::Model;
 
@@ -75,21 +76,25 @@ impl<B: ClusterName> LoggedFront<B> {
     }
 }
 
-/// A commit proxy, which has the entries of its front. The last one is that of its last ticket.
+/// A commit proxy, which has the entries of its front. The last one is that of its last ticket. Once its batch is
+/// decided, it has the conflict sets of the batch's places.
 #[derive(Drop)]
 pub struct CommitProxyAt<B: ClusterName> {
     front: KnownFront<B>,
     state: CommitCore,
+    conflicts: Items<RangeSet>,
+    alloc: Global,
 }
 
 impl<B: ClusterName> Model for CommitProxyAt<B> {
-    ghost use Rattle.fdb_sections.specs.CommitProxiesAtFronts.{CommitProxyAtFront, IsThere};
+    ghost use Rattle.fdb_sections.specs.CommitProxiesAtFronts.{AreSetsOf, CommitProxyAtFront, IsThere};
 
     ghost Value = { CommitProxyAtFront };
 
-    ghost view = { λ at. record { front = at.front; state = at.state } };
+    ghost view = { λ at. record { front = at.front; state = at.state; conflicts = at.conflicts } };
 
-    ghost invariant = { λ at. IsThere B.config at.front at.state.proxy };
+    ghost invariant = { λ at. IsThere B.config at.front at.state.proxy
+        × AreSetsOf B.config at.front at.state.proxy.stage at.conflicts };
 }
 
 impl<B: ClusterName> CommitProxyAt<B> {
@@ -102,7 +107,12 @@ impl<B: ClusterName> CommitProxyAt<B> {
     {
         let state = CommitCore::new(alloc, index, config)?;
         let (state, front) = beside(state, KnownFront::empty(alloc, book))?;
-        Ok(CommitProxyAt { front, state })
+        Ok(CommitProxyAt {
+            front,
+            state,
+            conflicts: Items::new(alloc),
+            alloc,
+        })
     }
 
     /// Takes a request, which waits for a batch after those that wait already. It takes no memory where there is room
@@ -256,7 +266,8 @@ impl<B: ClusterName> CommitProxyAt<B> {
         ensures refused { OnErr result (self.new ≡ self.old) }
     {
         self.front.know_entries();
-        let _outcomes = self.state.decide()?;
+        let Decision { conflicts, .. } = self.state.decide()?;
+        self.conflicts = conflicts;
         Ok(())
     }
 
@@ -299,15 +310,28 @@ impl<B: ClusterName> CommitProxyAt<B> {
         ensures answers { AnswersExactly result (done_fault self.old.state.proxy) (λ answers.
             (answers ≡ answers_in self.old.state.proxy.stage)
             × (self.new.state.proxy ≡ finishing self.old.state.proxy)) }
-        ensures told { IfOk result (AreOutcomes B.config self.old.front) }
+        ensures told { IfOk result (AreOutcomes B.config self.old.front self.old.conflicts) }
         ensures front { self.new.front ≡ self.old.front }
+        ensures conflicts { self.new.conflicts ≡ self.old.conflicts }
         ensures refused { OnErr result (self.new.state.proxy ≡ self.old.state.proxy) }
     {
         self.state.done()
     }
 
-    /// What the session of a place of the front's last entry is told, once that was reported: what became of it, with a
-    /// share of the front. Refused only as `NoMemory`. It takes O(1) time.
+    // A copy of the place's conflict set, which has no point unless there is one. Refused only where memory runs out.
+    // It takes O(1) time where the set is shared.
+    fn conflict(&self, place: u32) -> Result<RangeSet, AllocError>
+        ensures { IfOk result (λ set. set ≡ set_at place self.now.conflicts) }
+    {
+        match self.conflicts.as_slice().get(place as usize) {
+            Some(set) => set.clone(),
+            None => Ok(RangeSet::new(self.alloc)),
+        }
+    }
+
+    /// What the session of a place of the front's last entry is told, once that was reported: what became of it, and
+    /// where it conflicts, with a share of the front. Refused only as `NoMemory`. It takes O(1) time where the set is
+    /// shared.
     pub(crate) fn outcome_message(
         &self,
         reported: &Reported<B>,
@@ -315,16 +339,26 @@ impl<B: ClusterName> CommitProxyAt<B> {
         outcome: Outcome,
     ) -> Result<OutcomeMessage<B>, Refusal>
         requires reported { reported.now ≡ self.now.front }
-        requires by_rule { IsOutcome B.config.resolver_splits
-            (record { front = self.now.front; place = place; outcome = outcome }) }
-        ensures { Answers result None
-            (λ told. told ≡ record { front = self.now.front; place = place; outcome = outcome }) }
+        requires by_rule { IsOutcome B.config.resolver_splits (record {
+          front = self.now.front;
+          place = place;
+          outcome = outcome;
+          conflict = set_at place self.now.conflicts;
+        }) }
+        ensures { Answers result None (λ told. told ≡ record {
+          front = self.now.front;
+          place = place;
+          outcome = outcome;
+          conflict = set_at place self.now.conflicts;
+        }) }
     {
         let front = reported.share_front()?;
+        let conflict = self.conflict(place)?;
         Ok(OutcomeMessage {
             front,
             place,
             outcome,
+            conflict,
         })
     }
 
@@ -361,6 +395,7 @@ impl<B: ClusterName> CommitProxyAt<B> {
         let mut replies = VecDeque::with_capacity(alloc, self.in_flight())?;
         let answers = self.done()?;
         self.add_replies(reported, answers, &mut replies)?;
+        self.conflicts = Items::new(alloc);
         Ok(replies)
     }
 
@@ -372,7 +407,7 @@ impl<B: ClusterName> CommitProxyAt<B> {
         replies: &mut VecDeque<CommitReply<B>>,
     ) -> Result<(), Refusal>
         requires reported { reported.now ≡ self.now.front }
-        requires by_rule { AreOutcomes B.config self.now.front answers }
+        requires by_rule { AreOutcomes B.config self.now.front self.now.conflicts answers }
         requires nothing { replies.old.items ≡ [] }
         ensures added { OnOk result (AreRepliesFrom self.now.front 0 answers replies.new.items) }
         ensures why { IfErr result (λ why. why ≡ NoMemory) }
@@ -387,8 +422,12 @@ impl<B: ClusterName> CommitProxyAt<B> {
     // What the client of a place is told.
     fn reply_of(&self, reported: &Reported<B>, place: usize, outcome: Outcome) -> CommitReply<B>
         requires reported { reported.now ≡ self.now.front }
-        requires by_rule { IsOutcome B.config.resolver_splits
-            (record { front = self.now.front; place = place; outcome = outcome }) }
+        requires by_rule { IsOutcome B.config.resolver_splits (record {
+          front = self.now.front;
+          place = place;
+          outcome = outcome;
+          conflict = set_at place self.now.conflicts;
+        }) }
         ensures { IsReplyTo self.now.front place outcome result }
     {
         let Ok(place) = u32::try_from(place) else {

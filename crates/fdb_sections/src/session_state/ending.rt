@@ -1,6 +1,6 @@
 // How a session's transaction ends by what its commit proxy tells.
-ghost use Rattle.std.specs.Prelude.{◌≡◌, ◌⊎◌, max, true, false, length, None};
-ghost use Rattle.fdb_keys.specs.declared.refusal.Refusal.TheVariants.{BookFull, CommitUnknownResult};
+ghost use Rattle.std.specs.Prelude.{◌≡◌, ◌⊎◌, max, true, false, [], length, None};
+ghost use Rattle.fdb_keys.specs.declared.refusal.Refusal.TheVariants.{BookFull, CommitUnknownResult, NotCommitted};
 ghost use Rattle.fdb_book.specs.Fronts.{IsPrefix};
 ghost use Rattle.fdb_roles.specs.Spots.{spot_version};
 ghost use Rattle.fdb_client.specs.Programs.{commit_request_of, is_read_only};
@@ -18,7 +18,8 @@ use crate::session_state::SessionState;
 use crate::session_state::absent::shows;
 use crate::session_state::submitted::Submitted;
 use fdb_client::Transcript;
-use fdb_keys::{Refusal, Refused};
+use fdb_keys::{RangeSet, Refusal, Refused};
+use std::alloc::Global;
 
 // Whether a request that is refused so was never taken, since memory ran out for that.
 fn is_untaken(why: Refusal) -> bool
@@ -56,6 +57,21 @@ fn plain_reason(why: Refusal) -> Refusal
         | Refusal::Chain
         | Refusal::Closed => why,
         _ => Refusal::CommitUnknownResult,
+    }
+}
+
+// The points at which the transaction conflicts that the message is of, and none where it isn't refused for that. It
+// takes no memory.
+fn conflict_of<B: ClusterName>(alloc: Global, message: OutcomeMessage<B>, why: Refusal) -> RangeSet
+    ensures conflicts { why ≡ NotCommitted → result ≡ message.conflict }
+    ensures nowhere { (why ≡ NotCommitted → ⊥) → result ≡ [] }
+{
+    match why {
+        Refusal::NotCommitted => {
+            let OutcomeMessage { conflict, .. } = message;
+            conflict
+        }
+        _ => RangeSet::new(alloc),
     }
 }
 
@@ -104,24 +120,25 @@ impl<B: ClusterName> SessionState<B> {
         }
     }
 
-    // Settles the transaction, which is handed back where it has no receipt.
+    // Settles the transaction, which is handed back where it has no receipt, with the points at which it conflicts.
     fn settle_or_back(
         &mut self,
+        alloc: Global,
         submitted: Submitted,
-        message: &OutcomeMessage<B>,
-    ) -> Result<Receipt<B>, Refused<Option<Transcript>>>
+        message: OutcomeMessage<B>,
+    ) -> Result<Receipt<B>, Refused<Option<(Transcript, RangeSet)>>>
         requires wrote { is_read_only submitted.transaction ≡ false }
         requires opened { IsOpenAt B.config.resolver_splits self.old.number self.old.next_number self.old.front
             submitted.transaction }
         requires none { self.old.current ≡ None }
         ensures ends { CommitEnds B.config self.old submitted.transaction result self.new }
-        ensures told { IsByOutcome self.old message.now submitted.transaction result self.new }
+        ensures told { IsByOutcome self.old message submitted.transaction result self.new }
     {
-        match self.settle(submitted, message) {
+        match self.settle(submitted, &message) {
             Ok(receipt) => Ok(receipt),
             Err(refused) => Err(Refused {
                 why: refused.why,
-                back: Some(refused.back),
+                back: Some((refused.back, conflict_of(alloc, message, refused.why))),
             }),
         }
     }
@@ -130,9 +147,10 @@ impl<B: ClusterName> SessionState<B> {
     // taken, and ends else.
     fn end_refused(
         &mut self,
+        alloc: Global,
         submitted: Submitted,
         why: Refusal,
-    ) -> Result<Receipt<B>, Refused<Option<Transcript>>>
+    ) -> Result<Receipt<B>, Refused<Option<(Transcript, RangeSet)>>>
         requires opened { IsOpenAt B.config.resolver_splits self.old.number self.old.next_number self.old.front
             submitted.transaction }
         requires none { self.old.current ≡ None }
@@ -145,7 +163,7 @@ impl<B: ClusterName> SessionState<B> {
         }
         Err(Refused {
             why: self.unless_shown(&submitted, plain_reason(why)),
-            back: Some(submitted.into_transcript()),
+            back: Some((submitted.into_transcript(), RangeSet::new(alloc))),
         })
     }
 
@@ -153,10 +171,11 @@ impl<B: ClusterName> SessionState<B> {
     /// again where the proxy never took the request, since memory ran out.
     pub(crate) fn end(
         &mut self,
+        alloc: Global,
         book: u32,
         submitted: Submitted,
         told: CommitReply<B>,
-    ) -> Result<Receipt<B>, Refused<Option<Transcript>>>
+    ) -> Result<Receipt<B>, Refused<Option<(Transcript, RangeSet)>>>
         requires book { book ≡ B.config.book }
         requires wrote { is_read_only submitted.transaction ≡ false }
         requires opened { IsOpenAt B.config.resolver_splits self.old.number self.old.next_number self.old.front
@@ -166,12 +185,12 @@ impl<B: ClusterName> SessionState<B> {
         ensures told { IsToldSo B.config self.old submitted.transaction told result self.new }
     {
         match told {
-            CommitReply::Outcome(message) => self.settle_or_back(submitted, &message),
+            CommitReply::Outcome(message) => self.settle_or_back(alloc, submitted, message),
             CommitReply::Full(front) => Err(Refused {
                 why: self.see_full(book, &submitted, &front),
-                back: Some(submitted.into_transcript()),
+                back: Some((submitted.into_transcript(), RangeSet::new(alloc))),
             }),
-            CommitReply::Refused(why) => self.end_refused(submitted, why),
+            CommitReply::Refused(why) => self.end_refused(alloc, submitted, why),
         }
     }
 }

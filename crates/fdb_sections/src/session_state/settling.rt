@@ -206,7 +206,8 @@ impl<B: ClusterName> SessionState<B> {
         ensures given { IfOk result (λ given. IsReceipt B.config.resolver_splits
             (record { front = given.0; spot = given.1; transcript = submitted.now.transaction })) }
         ensures turned { IfErr result (λ why. (why ≡ CommitUnknownResult)
-            ⊎ IsTurnedDown B.config.resolver_splits self.new.front submitted.now.transaction why) }
+            ⊎ IsTurnedDown B.config.resolver_splits self.new.front submitted.now.transaction why
+            message.now.conflict) }
     {
         let Ok((front, share)) = fronts_with(&self.front, message, submitted) else {
             return Err(Refusal::CommitUnknownResult);
@@ -245,7 +246,8 @@ impl<B: ClusterName> SessionState<B> {
         ensures after { IfOk result (λ receipt. submitted.transaction.read_version < spot_version receipt.spot) }
         ensures marked { IfOk result (λ receipt. spot_version receipt.spot ≤ self.new.mark) }
         ensures turned { IfErr result (λ refused. (refused.why ≡ CommitUnknownResult)
-            ⊎ IsTurnedDown B.config.resolver_splits self.new.front submitted.transaction refused.why) }
+            ⊎ IsTurnedDown B.config.resolver_splits self.new.front submitted.transaction refused.why
+            message.now.conflict) }
     {
         let taken = self.take_outcome(&submitted, message);
         let transcript = submitted.into_transcript();

@@ -48,6 +48,7 @@ const TOO_MANY: &[u8] = b"ask 0 0 0\n\
     forget 0 1 1\n\
     pop 0 0\n\
     show 0 0\n\
+    conflict 0 0\n\
     drive 0 0";
 
 /// Lines with a word too few, of spaces alone at last.
@@ -78,6 +79,7 @@ const TOO_FEW: &[u8] = b"ask 0\n\
     pop\n\
     window\n\
     show\n\
+    conflict\n\
     drive\n\
     \x20  ";
 
@@ -102,6 +104,7 @@ const NO_WORDS: &[u8] = b"wri\n\
     forgets 0 1\n\
     pops 0\n\
     shows 0\n\
+    conflicts 0\n\
     Drive 0\n\
     drives 0\n\
     get 0 a\xc3\xa9\n\
@@ -131,6 +134,7 @@ const NO_NUMBERS: &[u8] = b"ask 4294967296 0\n\
     addread 4294967296 a b\n\
     addwrite a a b\n\
     show 4294967296\n\
+    conflict 4294967296\n\
     drive 4294967296\n\
     drive a\n\
     get 99999999999999999999999999999999999999 a";

@@ -2,6 +2,7 @@
 // `ok`, and an empty one and a comment print nothing. What is printed at the end of the input stands after `end > `; a
 // table without it is of a script that ends at its last line, with status 2.
 pub mod batches;
+mod conflicts;
 mod drives;
 pub mod moves;
 pub mod ranges;
@@ -90,6 +91,7 @@ fn check_table(rt: &impl Abort, alloc: Global, table: &str) -> Result<(), Fail> 
 fn tables_are_played(rt: HostRuntime) -> Result<(), Fail> {
     for tables in [
         batches::TABLES.as_slice(),
+        conflicts::TABLES.as_slice(),
         drives::TABLES.as_slice(),
         moves::TABLES.as_slice(),
         ranges::TABLES.as_slice(),

@@ -27,7 +27,7 @@ trait Host: Threads + Wait + Abort + Clock + Copy + Send + Sync + Drop + 'static
 impl<R: Threads + Wait + Abort + Clock + Copy + Send + Sync + Drop + 'static> Host for R {}
 
 // The test fails where it isn't what is wanted.
-fn same<T: PartialEq + Debug + Drop>(rt: &impl Abort, given: T, wanted: T) {
+pub(crate) fn same<T: PartialEq + Debug + Drop>(rt: &impl Abort, given: T, wanted: T) {
     assert_eq!(rt; given, wanted);
 }
 

@@ -4,5 +4,5 @@ use Rattle.fdb_bench.proofs.resolver.items_of.Goals as goal
 pub loop-place-preserved : goal.loop-place-preserved
 loop-place-preserved c =
     rw c.in_ok-push.ensures.ok
-    (items-push c.loop-place.place c.loop-place.items c.in_ok-item_of.field-0 c.loop-place.invariant
-    c.in_ok-item_of.ensures.0 c.in_ok-item_of.ensures.1)
+    (items-push c.loop-place.place c.loop-place.items c.item_of.result c.loop-place.invariant
+    c.item_of.ensures.0 c.item_of.ensures.1)

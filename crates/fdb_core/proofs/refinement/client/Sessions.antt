@@ -58,6 +58,7 @@ refines-sessions k grv_proxies sessions acknowledged before asked all = record {
   commit_proxies = before.commit_proxies;
   grv_proxies = asked;
   opened = all;
+  conflicts = before.conflicts;
 }
 
 -- sessions that are what they were leave the world as it was

@@ -3,21 +3,25 @@ use Rattle.std.proofs.Common.{◌≡◌, ◌∙◌, refl, sym, ap, subst, ⊎_el
 use Rattle.std.proofs.Common.{map, replicate, Option, Some, None, unwrap_or, Result, Ok, Err, slice_get, slice_set}
 use Rattle.std.proofs.Common.{if◌then◌else◌, arith}
 use Rattle.std.specs.Vec.{with_item}
-use Rattle.std.proofs.lemmas.Bool.{cases_eq, cases_Bool}
+use Rattle.std.proofs.lemmas.Bool.{cases_eq, cases_Bool, true≢false}
 use Rattle.std.proofs.lemmas.List.{length-set, length-map}
 use Rattle.std.proofs.lemmas.Option.{same_Some, slice_get_within}
 use Rattle.fdb_keys.specs.Answers.{Answers}
 use Rattle.fdb_keys.specs.declared.refusal.Refusal.{Refusal}
 use Rattle.fdb_keys.specs.declared.refusal.Refusal.TheVariants.{NotYet, WrongState}
+use Rattle.fdb_keys.specs.Points.{Point}
+use Rattle.fdb_keys.specs.Ranges.{Range, in_set}
 use Rattle.fdb_txn.specs.declared.entry.Entry.{Entry}
 use Rattle.fdb_txn.specs.book.Book.{seen_before}
 use Rattle.fdb_txn.specs.book.History.{AreEntries}
+use Rattle.fdb_txn.specs.book.Places.{place_of}
 use Rattle.fdb_log.specs.declared.message.LogMsg.{LogMsg}
 use Rattle.fdb_storage.specs.LogMessages.{log_messages}
 use Rattle.fdb_proxy.specs.declared.config.Config.{Config}
-use Rattle.fdb_proxy.specs.declared.outcome.Outcome.{Outcome}
+use Rattle.fdb_proxy.specs.declared.decision.Decision.{Decision}
 use Rattle.fdb_proxy.specs.CommitProxies.{waiting_for}
-use Rattle.fdb_proxy.specs.Verdicts.{is_needed, outcomes_on}
+use Rattle.fdb_proxy.specs.Conflicts.{set_at}
+use Rattle.fdb_proxy.specs.Verdicts.{is_needed, outcomes_on, conflict_at}
 use Rattle.fdb_core.specs.declared.cluster.Cluster.{Cluster}
 use Rattle.fdb_core.specs.declared.roles.commit_proxy.CommitProxyRole.{CommitProxyRole}
 use Rattle.fdb_core.specs.declared.roles.log.LogRole.{LogRole}
@@ -25,11 +29,12 @@ use Rattle.fdb_machine.specs.declared.step.Answered.TheVariants as answered
 use Rattle.fdb_machine.specs.machine.CommitProxySteps.{decides, is_idle, is_resolving}
 use Rattle.fdb_machine.specs.machine.Machine.{is_set, first_missing}
 use Rattle.fdb_machine.specs.machine.Roles.{Stage, Idle, Resolving, Logging, Reported}
-use Rattle.fdb_core.specs.refinement.Cluster.{machine_of, messages_on, Refines}
+use Rattle.fdb_core.specs.refinement.Cluster.{machine_of, messages_on, ConflictsRefine, Refines}
 use Rattle.fdb_core.specs.refinement.commit_proxy.Ties.{CommitProxyRefines, Known, known_to, Decides, seen_as}
 use Rattle.fdb_core.specs.refinement.log.Ties.{logs_taken}
 use Rattle.fdb_machine.specs.machine.Steps.{ran_out}
 use Rattle.fdb_machine.proofs.Exports.{Unless, unless, unless-fault}
+use Rattle.fdb_roles.specs.ProxyStages.{AreConflictsOn}
 use Rattle.fdb_roles.proofs.Exports.{answers-fault, set-here, set-other, map-at, map-set}
 use Rattle.fdb_core.proofs.refinement.commit_proxy.Ties.{commit_proxies-put, busy-entry}
 
@@ -59,6 +64,43 @@ made-set config book decided messages i entry new there is within flagged before
     then Some (messages_on config j (seen_before book j) other) else None)) (sym (set-other decided i j true differs)))
     (cases_eq j i)
 
+-- the conflict sets of an entry more, which is decided
+conflicts-set : (splits : List Point) (book : List Entry) (decided : List Bool) (conflicts : List (List (List Range)))
+    (i : ℕ) (entry : Entry) (new : List (List Range))
+    → slice_get book i ≡ Some entry → AreConflictsOn splits (seen_before book i) entry new → i < length decided
+    → ConflictsRefine splits book decided conflicts
+    → ConflictsRefine splits book (slice_set decided i true) (slice_set conflicts i new)
+conflicts-set splits book decided conflicts i entry new there is flagged ok = record {
+  each_kept = length-set conflicts i new ∙ ok.each_kept;
+  by_rule = λ j other of at done its. ⊎_elim
+      (λ same p x.
+      let entry_is : entry ≡ other = same_Some entry other (sym there ∙ ap (slice_get book) (sym same) ∙ at) in
+      ap (λ (sets : List (List Range)). in_set (set_at p sets) x) (sym (put j of same its)) ∙ is p x
+      ∙ (λ k. conflict_at splits (place_of (seen_before book (sym same k)) p (Some (entry_is k))) x))
+      (λ differs. ok.by_rule j other of at (sym (flag-other j differs) ∙ done)
+      (sym (set-other conflicts i j new differs) ∙ its))
+      (cases_eq j i);
+  undecided = λ j of waits its. ⊎_elim
+      (λ same. absurd (true≢false (sym (flag-here j same) ∙ waits)))
+      (λ differs. ok.undecided j of (sym (flag-other j differs) ∙ waits)
+      (sym (set-other conflicts i j new differs) ∙ its))
+      (cases_eq j i);
+}
+  where
+    flag-other : (j : ℕ) → ¬ (j ≡ i) → is_set (slice_set decided i true) j ≡ is_set decided j
+    flag-other j differs = ap (λ (flag : Option Bool). unwrap_or flag false) (set-other decided i j true differs)
+
+    flag-here : (j : ℕ) → j ≡ i → is_set (slice_set decided i true) j ≡ true
+    flag-here j same = ap (is_set (slice_set decided i true)) same
+        ∙ ap (λ (flag : Option Bool). unwrap_or flag false) (set-here decided i true flagged)
+
+    put : (j : ℕ) (of : List (List Range)) → j ≡ i → slice_get (slice_set conflicts i new) j ≡ Some of → new ≡ of
+    put j of same its =
+        let kept = ok.each_kept in
+        let inside = slice_get_within book i entry there in
+        same_Some new of (sym (ap (slice_get (slice_set conflicts i new)) same
+        ∙ set-here conflicts i new (omega (arith, kept, inside))) ∙ its)
+
 -- who resolves isn't idle
 busy : (stage : Stage) → is_resolving stage ≡ true → is_idle stage ≡ false
 busy Idle resolving = cc
@@ -76,9 +118,9 @@ none-waits : (missing : Option ℕ) → waiting_for missing ≡ None → missing
 none-waits None is = refl
 none-waits (Some n) is = cc
 
--- what deciding gives: what becomes of each place, and the messages for the logs
+-- what deciding gives: what is decided, and the messages for the logs
 abbrev pub Given : Type 0
-Given = List Outcome × List LogMsg
+Given = Decision × List LogMsg
 
 -- The proxy that is told to decide.
 module _ (k : Cluster) (refines : Refines k) (proxy : ℕ) (role : CommitProxyRole)
@@ -147,17 +189,19 @@ module _ (k : Cluster) (refines : Refines k) (proxy : ℕ) (role : CommitProxyRo
         follows waits.0 waits.2 (decides-waits waits.0 waits.1))
 
     -- what stands once it decided, and its messages are in the pool
-    pub decided : (outcomes : List Outcome) (messages : List LogMsg) (later : CommitProxyRole)
-        → Answers (Ok (outcomes, messages)) (waiting_for missing) (IsDecidedAs later) →
+    pub decided : (decision : Decision) (messages : List LogMsg) (later : CommitProxyRole)
+        → Answers (Ok (decision, messages)) (waiting_for missing) (IsDecidedAs later) →
         let next = record k {
           decided = with_item k.decided role.entry true;
           commit_proxies = with_item k.commit_proxies proxy later;
           messages = with_item k.messages role.entry (Some messages);
+          conflicts = with_item k.conflicts role.entry decision.conflicts;
         } in
-        (decides (machine_of k) proxy ≡ Ok (record { answer = answered.Decided outcomes; next = machine_of next }))
+        (decides (machine_of k) proxy
+        ≡ Ok (record { answer = answered.Decided decision.outcomes; next = machine_of next }))
         × Refines next
-    decided outcomes messages later answers =
-        let given = answers-fault (waiting_for missing) (outcomes, messages) (IsDecidedAs later) answers in
+    decided decision messages later answers =
+        let given = answers-fault (waiting_for missing) (decision, messages) (IsDecidedAs later) answers in
         let is = given.1.0 in
         let sent = given.1.1 in
         let book = refines.book in
@@ -202,6 +246,8 @@ module _ (k : Cluster) (refines : Refines k) (proxy : ℕ) (role : CommitProxyRo
                 proxy later refines.commit_proxies is.refines;
             grv_proxies = refines.grv_proxies;
             opened = refines.opened;
+            conflicts = conflicts-set k.config.resolver_splits k.book.items k.decided.items k.conflicts.items
+                role.entry entry decision.conflicts entry-there is.conflicts_are flagged refines.conflicts;
           },
         )
 
@@ -266,41 +312,49 @@ module _ (k : Cluster) (refines : Refines k) (proxy : ℕ) (role later : CommitP
       given-refused is = cc
 
   -- where it decided: what it decided is its entry, by number
-  module _ (outcomes : List Outcome) (messages : List LogMsg) (wrong : SaysWrong (Ok (outcomes, messages)))
-      (says : SaysDecided (Ok (outcomes, messages))) (i : ℕ) (number : i ≡ role.entry) where
+  module _ (decision : Decision) (messages : List LogMsg) (wrong : SaysWrong (Ok (decision, messages)))
+      (says : SaysDecided (Ok (decision, messages))) (i : ℕ) (number : i ≡ role.entry) where
     now : waiting
-    now = waited (outcomes, messages) wrong
+    now = waited (decision, messages) wrong
 
-    pub in-pool : (i < length k.messages.items) × (i < length k.decided.items)
+    pub in-pool : (i < length k.messages.items) × (i < length k.decided.items) × (i < length k.conflicts.items)
     in-pool =
         let inside = slice_get_within k.book.items role.entry (entry k refines proxy role there now)
         (entry-there k refines proxy role there now) in
         let pooled = refines.book.each_pooled in
         let flagged = refines.book.each_flagged in
-        (omega (arith, inside, pooled, number), omega (arith, inside, flagged, number))
+        let kept = refines.conflicts.each_kept in (
+          omega (arith, inside, pooled, number),
+          omega (arith, inside, flagged, number),
+          omega (arith, inside, kept, number),
+        )
 
     pub is-decided :
         let next = record k {
           decided = with_item k.decided i true;
           commit_proxies = with_item k.commit_proxies proxy later;
           messages = with_item k.messages i (Some messages);
+          conflicts = with_item k.conflicts i decision.conflicts;
         } in
-        (decides (machine_of k) proxy ≡ Ok (record { answer = answered.Decided outcomes; next = machine_of next }))
+        (decides (machine_of k) proxy
+        ≡ Ok (record { answer = answered.Decided decision.outcomes; next = machine_of next }))
         × Refines next
     is-decided =
         subst (λ (n : ℕ).
         (decides (machine_of k) proxy ≡ Ok (record {
-          answer = answered.Decided outcomes;
+          answer = answered.Decided decision.outcomes;
           next = machine_of (record k {
             decided = with_item k.decided n true;
             commit_proxies = with_item k.commit_proxies proxy later;
             messages = with_item k.messages n (Some messages);
+            conflicts = with_item k.conflicts n decision.conflicts;
           });
         }))
         × Refines (record k {
           decided = with_item k.decided n true;
           commit_proxies = with_item k.commit_proxies proxy later;
           messages = with_item k.messages n (Some messages);
+          conflicts = with_item k.conflicts n decision.conflicts;
         })) (sym number)
-        (decided k refines proxy role there now outcomes messages later
-        (at-world (Ok (outcomes, messages)) says now))
+        (decided k refines proxy role there now decision messages later
+        (at-world (Ok (decision, messages)) says now))

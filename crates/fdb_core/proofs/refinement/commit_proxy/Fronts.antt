@@ -1,6 +1,6 @@
 -- What a commit proxy of the world has of the book, by the front that its state has.
-use Rattle.std.proofs.Common.{◌≡◌, ◌∙◌, sym, ap, subst, arith, ℕ, suc, ◌<◌, le_of_lt, Bool, true, false, List, []}
-use Rattle.std.proofs.Common.{◌++◌, length, Some, None, slice_get}
+use Rattle.std.proofs.Common.{◌≡◌, ◌∙◌, sym, ap, subst, inl, inr, ⊎_elim, arith, ℕ, suc, ◌<◌, le_of_lt, Bool, true}
+use Rattle.std.proofs.Common.{false, List, [], ◌++◌, length, Some, None, slice_get}
 use Rattle.fdb_keys.specs.Points.{Point}
 use Rattle.fdb_txn.specs.declared.entry.Entry.{Entry}
 use Rattle.fdb_txn.specs.book.Book.{Seen, seen_before}
@@ -20,7 +20,7 @@ use Rattle.fdb_proxy.specs.Parting.{AreParts}
 use Rattle.fdb_proxy.specs.Verdicts.{moves_through, verdicts_on, outcomes_on}
 use Rattle.fdb_core.specs.declared.roles.commit_proxy.CommitProxyRole.{CommitProxyRole}
 use Rattle.fdb_roles.specs.ProxyLaws.{IsLastEntry}
-use Rattle.fdb_roles.specs.ProxyStages.{IsBatchOf, IsResolving, IsLogging, IsStageAt, IsSaid, position_in}
+use Rattle.fdb_roles.specs.ProxyStages.{AreFindsOn, IsBatchOf, IsResolving, IsLogging, IsStageAt, IsSaid, position_in}
 use Rattle.fdb_core.specs.refinement.commit_proxy.Ties.{CommitProxyRefines, Known, StageRefines}
 use Rattle.fdb_roles.proofs.Exports.{front-at, seen-front}
 
@@ -60,6 +60,11 @@ module _ (front behind : List Entry) (i : ℕ) (entry : Entry) (within : i < len
         is.parts;
     count = is.count;
     came = λ r said there. is.came r said there ∙ ap (λ (s : Seen). verdicts_on splits r s entry) seen-whole;
+    found_count = is.found_count;
+    found = λ r of there. ⊎_elim
+        (λ silent. inl silent)
+        (λ found. inr (subst (λ (s : Seen). AreFindsOn splits r s entry of) seen-whole found))
+        (is.found r of there);
   }
 
   logging-whole : (config : Config) (decided : Decided) → IsLogging config front i entry decided
@@ -134,6 +139,8 @@ module _ (config : Config) (book : List Entry) (known : Known) (role : CommitPro
     answers = in-whole.answers
         ∙ ap (λ (s : Seen). verdicts_on config.resolver_splits verdicts.resolver s entry)
         (sym (seen-whole ok.front ok.behind verdicts.index entry within));
+    found = subst (λ (s : Seen). AreFindsOn config.resolver_splits verdicts.resolver s entry verdicts.conflicts)
+        (sym (seen-whole ok.front ok.behind verdicts.index entry within)) in-whole.found;
   }
     where
       in-whole : IsSaid config.resolver_splits (ok.front ++ ok.behind) verdicts entry

@@ -11,7 +11,8 @@ use Rattle.fdb_keys.specs.declared.refusal.Refusal.{Refusal}
 use Rattle.fdb_keys.specs.declared.refusal.Refusal.TheVariants.{Stale, Unknown}
 use Rattle.fdb_txn.specs.declared.entry.Entry.{Entry}
 use Rattle.fdb_txn.specs.book.Book.{seen_before}
-use Rattle.fdb_proxy.specs.Verdicts.{verdicts_on}
+use Rattle.fdb_txn.specs.book.Places.{place_of}
+use Rattle.fdb_proxy.specs.Verdicts.{verdicts_on, found_at}
 use Rattle.fdb_resolver.specs.declared.verdict.Verdicts.{Verdicts}
 use Rattle.fdb_core.specs.declared.cluster.Cluster.{Cluster}
 use Rattle.fdb_core.specs.declared.roles.commit_proxy.CommitProxyRole.{CommitProxyRole}
@@ -263,6 +264,9 @@ module _ (k : Cluster) (refines : Refines k) (entry resolver proxy : ℕ)
             answers = ok.sent.rule entry verdicts e.0 sent e.1
                 ∙ (λ i. verdicts_on k.config.resolver_splits (sym named.0 i)
                 (seen_before k.book.items (sym named.1 i)) e.0);
+            found = λ p x. ok.sent.found entry verdicts e.0 sent e.1 p x
+                ∙ (λ i. found_at k.config.resolver_splits (sym named.0 i)
+                (place_of (seen_before k.book.items (sym named.1 i)) p (Some e.0)) x);
           },
         ),
       )

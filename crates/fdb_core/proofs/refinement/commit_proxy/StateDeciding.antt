@@ -7,6 +7,7 @@ use Rattle.std.proofs.lemmas.Option.{same_Some}
 use Rattle.std.specs.Option.{is_some}
 use Rattle.fdb_keys.specs.Answers.{Answers, AnswersExactly}
 use Rattle.fdb_keys.specs.Points.{Point}
+use Rattle.fdb_keys.specs.Ranges.{in_set}
 use Rattle.fdb_keys.specs.declared.refusal.Refusal.{Refusal}
 use Rattle.fdb_keys.specs.declared.refusal.Refusal.TheVariants.{Stale}
 use Rattle.fdb_txn.specs.declared.entry.Entry.{Entry}
@@ -19,13 +20,14 @@ use Rattle.fdb_resolver.specs.declared.part.Item.{Item}
 use Rattle.fdb_resolver.specs.declared.part.Part.{Part}
 use Rattle.fdb_resolver.specs.declared.verdict.Verdicts.{Verdicts}
 use Rattle.fdb_proxy.specs.declared.config.Config.{Config}
+use Rattle.fdb_proxy.specs.declared.decision.Decision.{Decision}
 use Rattle.fdb_proxy.specs.declared.logging.Logging.{Logging as Decided}
-use Rattle.fdb_proxy.specs.declared.outcome.Outcome.{Outcome}
 use Rattle.fdb_proxy.specs.declared.resolving.Resolving.{Resolving as Unheard}
 use Rattle.fdb_proxy.specs.declared.stage.Stage.{Stage as CoreStage}
 use Rattle.fdb_proxy.specs.declared.stage.Stage.TheVariants as stages
 use Rattle.fdb_proxy.specs.CommitProxies.{ProxyWithRoom, waiting_for, verdict_fault, with_verdict, decide_fault}
-use Rattle.fdb_proxy.specs.CommitProxies.{outcomes_in, deciding, messages_of}
+use Rattle.fdb_proxy.specs.CommitProxies.{outcomes_in, decision_in, deciding, messages_of}
+use Rattle.fdb_proxy.specs.Conflicts.{set_at}
 use Rattle.fdb_proxy.specs.Deciding.{Said}
 use Rattle.fdb_proxy.specs.Logging.{answers_by}
 use Rattle.fdb_proxy.specs.Parting.{AreItems}
@@ -40,7 +42,8 @@ use Rattle.fdb_roles.specs.ProxyStages.{IsCommitProxyAt, IsBatchOf, IsResolving,
 use Rattle.fdb_core.specs.refinement.commit_proxy.Ties.{CommitProxyRefines, Known}
 use Rattle.fdb_core.specs.refinement.commit_proxy.Ties.{Decides, stage_of, received_at, seen_as}
 use Rattle.fdb_roles.proofs.Exports.{within-item, answers-by, map-set, proxies_hear_verdicts}
-use Rattle.fdb_roles.proofs.Exports.{proxies_decide_by_the_rule, asked, outcomes-decided, messages-decided}
+use Rattle.fdb_roles.proofs.Exports.{proxies_decide_by_the_rule, asked, conflicts-decided, outcomes-decided}
+use Rattle.fdb_roles.proofs.Exports.{messages-decided}
 use Rattle.fdb_core.proofs.refinement.commit_proxy.Fronts.{StageTold, stage-told, last-told, said-front, entries-front}
 use Rattle.fdb_core.proofs.refinement.commit_proxy.StateStages.{exactly-by, awaited, same-test, staged, seen-staged}
 
@@ -274,11 +277,11 @@ module _ (config : Config) (book : List Entry) (known : Known) (role : CommitPro
             by_missing (Some number) none = cc
 
         -- what stands once it is decided
-        decides : (later : ProxyWithRoom) (outcomes : List Outcome)
-            → decide_fault role.state.proxy ≡ None → outcomes ≡ outcomes_in role.state.proxy
+        decides : (later : ProxyWithRoom) (decision : Decision)
+            → decide_fault role.state.proxy ≡ None → decision ≡ decision_in role.state.proxy
             → later.proxy ≡ deciding role.state.proxy
-            → Decides config book known entry role outcomes (record role { state = later })
-        decides later outcomes no_fault are after =
+            → Decides config book known entry role decision (record role { state = later })
+        decides later decision no_fault are after =
             let none = fault-none no_fault in
             let by_rule : outcomes_in role.state.proxy ≡ outcomes_on config.resolver_splits before entry =
             rw stage (outcomes-decided config.resolver_splits book role.entry entry there batch is
@@ -291,7 +294,10 @@ module _ (config : Config) (book : List Entry) (known : Known) (role : CommitPro
             let next : later.proxy
             ≡ record role.state.proxy { stage = stages.Logging decided } = after ∙ rw stage refl in
             record {
-              outcomes_are = are ∙ by_rule;
+              outcomes_are = ap (λ (d : Decision). d.outcomes) are ∙ by_rule;
+              conflicts_are = λ p x. ap (λ (d : Decision). in_set (set_at p d.conflicts) x) are
+                  ∙ rw stage (conflicts-decided config.resolver_splits book role.entry entry there batch is
+                  role.state.proxy.batch its entries none p x);
               machine = seen-staged config book known role ok later (stages.Logging decided) next
                   ∙ rw unreported (λ i. record (seen_as role) {
                     stage = Logging;
@@ -340,9 +346,9 @@ module _ (config : Config) (book : List Entry) (known : Known) (role : CommitPro
 
     -- what the call answers by which it is decided, with the messages
     pub decides-answers : is_resolving (stage_of role.is_reported role.state.proxy.stage) ≡ true
-        → (result : Result (List Outcome × List LogMsg) Refusal) (later : ProxyWithRoom)
+        → (result : Result (Decision × List LogMsg) Refusal) (later : ProxyWithRoom)
         → Answers result (decide_fault role.state.proxy)
-        (λ given. (given.0 ≡ outcomes_in role.state.proxy) × (later.proxy ≡ deciding role.state.proxy)
+        (λ given. (given.0 ≡ decision_in role.state.proxy) × (later.proxy ≡ deciding role.state.proxy)
         × (given.1 ≡ messages_of later.proxy))
         → Answers result (waiting_for (first_missing
         (λ resolver. is_needed config.resolver_splits resolver before entry) 0 (received_at role.state.proxy.stage)))
@@ -352,7 +358,7 @@ module _ (config : Config) (book : List Entry) (known : Known) (role : CommitPro
         let found = decides-resolving resolving_now in
         let fault = fault-decided found.0 found.1 found.2 found.3 found.4 in
         answers-by result (decide_fault role.state.proxy) _
-        (λ given. (given.0 ≡ outcomes_in role.state.proxy) × (later.proxy ≡ deciding role.state.proxy)
+        (λ given. (given.0 ≡ decision_in role.state.proxy) × (later.proxy ≡ deciding role.state.proxy)
         × (given.1 ≡ messages_of later.proxy))
         (λ given. Decides config book known entry role given.0 (record role { state = later })
         × (given.1 ≡ log_messages config.resolver_splits config.shard_splits config.logs role.entry before entry)) fault

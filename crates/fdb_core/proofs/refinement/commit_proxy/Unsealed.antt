@@ -2,6 +2,7 @@
 use Rattle.std.proofs.Common.{◌≡◌, ◌∙◌, refl, sym, ap, inl, inr, ⊎_elim, ℕ, Bool, true, false, List, Option, Some}
 use Rattle.std.proofs.Common.{map, slice_get, slice_set, Vec, Global}
 use Rattle.std.specs.Vec.{with_item}
+use Rattle.fdb_keys.specs.Ranges.{Range}
 use Rattle.fdb_txn.specs.declared.entry.Entry.{Entry}
 use Rattle.fdb_log.specs.declared.message.LogMsg.{LogMsg}
 use Rattle.fdb_resolver.specs.declared.part.Part.{Part}
@@ -25,7 +26,8 @@ module _ (k : Cluster) (book : Vec Entry Global) (entry_proxies : Vec ℕ Global
     (parts : Vec (List Part) Global) (messages : Vec (Option (List LogMsg)) Global)
     (book_is : book.items ≡ k.book.items) (proxies_are : entry_proxies.items ≡ k.entry_proxies.items)
     (decided_are : decided.items ≡ k.decided.items) (parts_are : parts.items ≡ k.parts.items)
-    (messages_are : messages.items ≡ k.messages.items) where
+    (messages_are : messages.items ≡ k.messages.items) (conflicts : Vec (List (List Range)) Global)
+    (conflicts_are : conflicts.items ≡ k.conflicts.items) where
   -- with these commit proxies
   abbrev pub roomy : Cluster → Vec CommitProxyRole Global → Cluster
   roomy k0 roles = record k0 {
@@ -34,6 +36,7 @@ module _ (k : Cluster) (book : Vec Entry Global) (entry_proxies : Vec ℕ Global
     decided = decided;
     parts = parts;
     messages = messages;
+    conflicts = conflicts;
     commit_proxies = roles;
   }
 
@@ -52,6 +55,7 @@ module _ (k : Cluster) (book : Vec Entry Global) (entry_proxies : Vec ℕ Global
     commit_proxies = rw book_is its;
     grv_proxies = before.grv_proxies;
     opened = before.opened;
+    conflicts = rw (book_is, decided_are, conflicts_are) before.conflicts;
   }
 
   machine : (roles : Vec CommitProxyRole Global) → map seen_as roles.items ≡ map seen_as k.commit_proxies.items

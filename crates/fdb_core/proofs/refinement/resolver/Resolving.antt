@@ -12,19 +12,21 @@ use Rattle.fdb_keys.specs.declared.refusal.Refusal.TheVariants.{NoMemory}
 use Rattle.fdb_txn.specs.declared.entry.Entry.{Entry}
 use Rattle.fdb_txn.specs.book.Book.{seen_of, seen_before, last_horizon}
 use Rattle.fdb_txn.specs.book.History.{AreEntries, HorizonsRise}
+use Rattle.fdb_txn.specs.book.Places.{place_of}
 use Rattle.fdb_resolver.specs.declared.part.Part.{Part}
 use Rattle.fdb_resolver.specs.Parts.{IsPart}
 use Rattle.fdb_resolver.specs.declared.verdict.Verdict.{Verdict}
 use Rattle.fdb_resolver.specs.declared.verdict.Verdicts.{Verdicts}
 use Rattle.fdb_resolver.specs.Resolvers.{Resolver, part_fault, IsAnswer, HasTaken}
+use Rattle.fdb_resolver.specs.Rule.{finds}
 use Rattle.fdb_proxy.specs.Parting.{IsPartOf}
-use Rattle.fdb_proxy.specs.Verdicts.{moves_through, verdicts_on}
+use Rattle.fdb_proxy.specs.Verdicts.{moves_through, verdicts_on, found_at}
 use Rattle.fdb_core.specs.declared.roles.resolver.ResolverRole.{ResolverRole}
 use Rattle.fdb_core.specs.declared.cluster.Cluster.{Cluster}
 use Rattle.fdb_machine.specs.declared.step.Answered.TheVariants as answered
 use Rattle.fdb_machine.specs.machine.RoleSteps.{resolves}
 use Rattle.fdb_core.specs.refinement.Cluster.{machine_of, Refines}
-use Rattle.fdb_roles.specs.ProxyStages.{ArePartsOf, position_in}
+use Rattle.fdb_roles.specs.ProxyStages.{AreFindsOn, ArePartsOf, position_in}
 use Rattle.fdb_core.specs.refinement.resolver.Resolving.{ResolverRefines, ResolversRefine, TakesNext, taken_by}
 use Rattle.fdb_core.proofs.refinement.RolesLemmas.{roles_of, roles-refine}
 use Rattle.fdb_roles.specs.AtBook.{IsResolverAt}
@@ -68,6 +70,7 @@ module _ (splits : List Point) (before : List Entry) (entry : Entry) (i index : 
         resolver = is.resolver ∙ at.index;
         number = is.index ∙ of.index;
         answers = sym same;
+        found = took.2;
       }
     where
       same-some : (a b : List (ℕ × Verdict)) → Some a ≡ Some b → a ≡ b
@@ -157,6 +160,7 @@ module _ (k : Cluster) (refines : Refines k) (i r : ℕ) (entry : Entry) (role :
                   ap (λ (v : Verdicts). v.index) (sym same) ∙ took.number ∙ sym last,
                 ));
             rule = λ j verdicts other here entry_here. by_rule j verdicts other here entry_here;
+            found = λ j verdicts other here entry_here. by_finds j verdicts other here entry_here;
           };
         }
       where
@@ -188,6 +192,16 @@ module _ (k : Cluster) (refines : Refines k) (i r : ℕ) (entry : Entry) (role :
             (sym there ∙ ap (slice_get book) (sym last) ∙ entry_here) in
             ap (λ (v : Verdicts). v.answers) (sym same) ∙ took.answers ∙ took.rule
             ∙ (λ j'. verdicts_on splits r (seen_before book (sym last j')) (entry_is j')))
+
+        by_finds : (j : ℕ) (verdicts : Verdicts) (other : Entry) → slice_get later.sent.items j ≡ Some verdicts
+            → slice_get book j ≡ Some other → AreFindsOn splits r (seen_before book j) other verdicts.conflicts
+        by_finds j verdicts other here entry_here = by_place j verdicts here
+            (λ early was. ok.sent.found j verdicts other was entry_here)
+            (λ last same p x.
+            let entry_is : entry ≡ other = same_Some entry other
+            (sym there ∙ ap (slice_get book) (sym last) ∙ entry_here) in
+            ap (λ (v : Verdicts). finds p v.conflicts x) (sym same) ∙ took.found p x
+            ∙ (λ j'. found_at splits r (place_of (seen_before book (sym last j')) p (Some (entry_is j'))) x))
 
     pub resolvers-next : ResolversRefine splits book (slice_set k.resolvers.items r later)
     resolvers-next = record {

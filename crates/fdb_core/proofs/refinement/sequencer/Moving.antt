@@ -54,6 +54,7 @@ module _ (k : Cluster) (refines : Refines k) (range : Range) (to : ℕ) where
     commit_proxies = refines.commit_proxies;
     grv_proxies = refines.grv_proxies;
     opened = refines.opened;
+    conflicts = refines.conflicts;
   }
 
   -- where the sequencer took the move

@@ -35,6 +35,7 @@ module _ (k : Cluster) (refines : Refines k) (width : ℕ) where
     commit_proxies = refines.commit_proxies;
     grv_proxies = refines.grv_proxies;
     opened = refines.opened;
+    conflicts = refines.conflicts;
   }
 
   -- where the sequencer took the window, it is its own, and so it is the machine's

@@ -15,6 +15,7 @@ use Rattle.fdb_sequencer.specs.declared.dated.Dated.{Dated}
 use Rattle.fdb_sequencer.specs.Moves.{dated}
 use Rattle.fdb_sequencer.specs.Sequencer.{Sequencer, unlearnt_by}
 use Rattle.fdb_proxy.specs.declared.config.Config.{Config}
+use Rattle.fdb_proxy.specs.declared.decision.Decision.{Decision}
 use Rattle.fdb_proxy.specs.declared.outcome.Outcome.{Outcome}
 use Rattle.fdb_proxy.specs.declared.stage.Stage.{Stage as CoreStage}
 use Rattle.fdb_proxy.specs.declared.stage.Stage.TheVariants as stages
@@ -27,7 +28,7 @@ use Rattle.fdb_proxy.specs.Parting.{AreParts}
 use Rattle.fdb_proxy.specs.Verdicts.{moves_through, outcomes_on}
 use Rattle.fdb_client.specs.declared.program.Transcript.{Transcript}
 use Rattle.fdb_client.specs.Programs.{commit_request_of}
-use Rattle.fdb_roles.specs.ProxyStages.{IsCommitProxyAt}
+use Rattle.fdb_roles.specs.ProxyStages.{AreConflictsOn, IsCommitProxyAt}
 use Rattle.fdb_roles.specs.Entries.{dated_moves, entry_of}
 use Rattle.fdb_core.specs.declared.roles.commit_proxy.CommitProxyRole.{CommitProxyRole}
 use Rattle.fdb_machine.specs.machine.CommitProxySteps.{with_batch}
@@ -145,10 +146,11 @@ pub record IsLeftUnsealed (ticket : Ticket) (old new : CommitProxyRole) : Type 0
   pub state : HasNoBatch old.state.proxy ticket new.state.proxy
   pub rest : new ≡ record old { state = new.state }
 
--- The batch of the entry is decided by the rule.
+-- The batch of the entry is decided by the rule, with the conflict sets of its places.
 pub record Decides (config : Config) (book : List Entry) (known : Known) (entry : Entry) (old : CommitProxyRole)
-    (outcomes : List Outcome) (new : CommitProxyRole) : Type 0 where
-  pub outcomes_are : outcomes ≡ outcomes_on config.resolver_splits (seen_before book old.entry) entry
+    (decision : Decision) (new : CommitProxyRole) : Type 0 where
+  pub outcomes_are : decision.outcomes ≡ outcomes_on config.resolver_splits (seen_before book old.entry) entry
+  pub conflicts_are : AreConflictsOn config.resolver_splits (seen_before book old.entry) entry decision.conflicts
   pub machine : seen_as new ≡ record (seen_as old) {
     stage = Logging;
     verdicts_received = [];

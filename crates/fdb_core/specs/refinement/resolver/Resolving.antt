@@ -8,7 +8,7 @@ use Rattle.fdb_resolver.specs.declared.verdict.Verdict.{Verdict}
 use Rattle.fdb_resolver.specs.declared.verdict.Verdicts.{Verdicts}
 use Rattle.fdb_resolver.specs.Resolvers.{HasFailed}
 use Rattle.fdb_proxy.specs.Verdicts.{verdicts_on}
-use Rattle.fdb_roles.specs.ProxyStages.{ArePartsOf}
+use Rattle.fdb_roles.specs.ProxyStages.{AreFindsOn, ArePartsOf}
 use Rattle.fdb_roles.specs.Lists.{Each}
 use Rattle.fdb_roles.specs.AtBook.{IsResolverAt}
 use Rattle.fdb_core.specs.declared.roles.resolver.ResolverRole.{ResolverRole}
@@ -17,12 +17,14 @@ use Rattle.fdb_core.specs.declared.roles.resolver.ResolverRole.{ResolverRole}
 abbrev pub taken_by : List ResolverRole → List ℕ
 taken_by resolvers = map (λ (role : ResolverRole). role.taken) resolvers
 
--- it sent these verdicts on the first of its entries that it took
+-- it sent these verdicts on the first of its entries that it took, with what it found
 pub record HaveBeenSent (splits : List Point) (book : List Entry) (i : ℕ) (sent : List Verdicts) : Type 0 where
   pub resolver : (j : ℕ) (verdicts : Verdicts) → slice_get sent j ≡ Some verdicts
       → (verdicts.resolver ≡ i) × (verdicts.index ≡ j)
   pub rule : (j : ℕ) (verdicts : Verdicts) (entry : Entry) → slice_get sent j ≡ Some verdicts
       → slice_get book j ≡ Some entry → verdicts.answers ≡ verdicts_on splits i (seen_before book j) entry
+  pub found : (j : ℕ) (verdicts : Verdicts) (entry : Entry) → slice_get sent j ≡ Some verdicts
+      → slice_get book j ≡ Some entry → AreFindsOn splits i (seen_before book j) entry verdicts.conflicts
 
 -- a resolver took this many entries, and sent what the rule says of each
 pub record ResolverRefines (splits : List Point) (book : List Entry) (i : ℕ) (role : ResolverRole) : Type 0 where
@@ -49,7 +51,7 @@ pub record PartsRefine (splits : List Point) (book : List Entry) (parts : List (
       → ArePartsOf splits book i entry of
 
 -- Resolver i took its next entry, which has the number `index`, answered what the rule says of the entry's places, and
--- sent just that.
+-- sent just that, with what it found by the rule.
 pub record TakesNext (splits : List Point) (before : List Entry) (entry : Entry) (i index : ℕ) (old : ResolverRole)
     (answer : List (ℕ × Verdict)) (new : ResolverRole) : Type 0 where
   pub rule : answer ≡ verdicts_on splits i (seen_of before) entry
@@ -60,3 +62,4 @@ pub record TakesNext (splits : List Point) (before : List Entry) (entry : Entry)
   pub resolver : verdicts.resolver ≡ i
   pub number : verdicts.index ≡ index
   pub answers : verdicts.answers ≡ answer
+  pub found : AreFindsOn splits i (seen_of before) entry verdicts.conflicts

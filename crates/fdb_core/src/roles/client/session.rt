@@ -3,6 +3,7 @@ use crate::roles::client::read::{Read, read_by};
 use fdb_client::{Finished, Snapshot, Txn};
 use fdb_keys::Refusal;
 use fdb_machine::Answered;
+use fdb_txn::TxnId;
 use std::marker::Model;
 use std::mem;
 
@@ -41,7 +42,8 @@ impl Session {
     ghost use Rattle.fdb_client.specs.declared.program.Reply.TheVariants as answer;
     ghost use Rattle.fdb_client.specs.declared.program.Transcript.{Transcript};
     ghost use Rattle.fdb_machine.specs.machine.ClientSteps.{answered_by};
-    ghost use Rattle.fdb_machine.specs.machine.Sessions.{Idle, Open, open_of, is_busy, at_state};
+    ghost use Rattle.fdb_machine.specs.machine.Conflicts.{id_of};
+    ghost use Rattle.fdb_machine.specs.machine.Sessions.{Idle, Open, open_of, is_busy, is_waiting, at_state};
     ghost use Rattle.fdb_core.specs.refinement.client.Noting.{noted_as, note_fault};
     ghost use Rattle.fdb_core.specs.refinement.client.Reading.{operation_of, call_fault};
     ghost use Rattle.fdb_roles.specs.Sessions.{OfOpen, Finishes};
@@ -66,6 +68,19 @@ impl Session {
         ensures { result ≡ is_busy self.now.state }
     {
         matches!(self.state, SessionState::Asking | SessionState::Waiting)
+    }
+
+    /// The id of its last transaction, as that of the session with the number, unless it waits for what becomes of it.
+    pub(crate) fn last_told(&self, session: u32) -> Option<TxnId>
+        ensures { result ≡ (if is_waiting self.now.state then None else id_of session self.now.last_number) }
+    {
+        if matches!(self.state, SessionState::Waiting) {
+            return None;
+        }
+        match self.last_number {
+            Some(number) => Some(TxnId { session, number }),
+            None => None,
+        }
     }
 
     /// Its open transaction, if it has one.

@@ -45,6 +45,7 @@ impl Sessions {
     ghost use Rattle.fdb_core.specs.refinement.client.Noting.{noted_as, note_fault};
     ghost use Rattle.fdb_core.specs.refinement.client.Reading.{operation_of, call_fault};
     ghost use Rattle.fdb_roles.specs.Sessions.{OfOpen, Finishes};
+    ghost use Rattle.fdb_machine.specs.machine.Conflicts.{last_told};
     ghost use Rattle.fdb_machine.specs.machine.GrvProxySteps.{has_no_number};
     ghost use Rattle.fdb_machine.specs.machine.Sessions.{Idle, Asking, Open, Waiting, session_of, open_at, with_state};
     ghost use Rattle.fdb_machine.specs.machine.Sessions.{is_busy, next_number, serve, tell};
@@ -103,6 +104,17 @@ impl Sessions {
         match self.last_number(session) {
             None => false,
             Some(last) => last == u64::MAX,
+        }
+    }
+
+    /// The id of the session's last transaction, unless it waits for what becomes of it. It takes O(log n) time for n
+    /// sessions.
+    pub(crate) fn last_told(&self, session: u32) -> Option<TxnId>
+        ensures { result ≡ last_told self.now session }
+    {
+        match self.known(session) {
+            Some(known) => known.last_told(session),
+            None => None,
         }
     }
 

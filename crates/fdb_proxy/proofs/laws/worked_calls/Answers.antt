@@ -1,4 +1,6 @@
 use Rattle.std.proofs.Common.{refl}
+use Rattle.fdb_keys.specs.Insertion.{inserted}
+use Rattle.fdb_keys.specs.Points.{point_lt}
 use Rattle.fdb_proxy.proofs.laws.worked_calls.Goals as goal
 
 pub returns-clause-submitting : goal.returns-clause-submitting
@@ -26,6 +28,17 @@ returns-clause-verdict c = (
 
 pub returns-clause-deciding : goal.returns-clause-deciding
 returns-clause-deciding c = (
+  refl,
+  refl,
+  refl,
+)
+
+pub returns-clause-conflicts : goal.returns-clause-conflicts
+unfolding point_lt inserted
+returns-clause-conflicts c = (
+  refl,
+  refl,
+  refl,
   refl,
   refl,
   refl,

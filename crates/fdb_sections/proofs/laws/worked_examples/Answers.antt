@@ -1,19 +1,24 @@
 use Rattle.std.proofs.Common.{◌≡◌, ◌∙◌, sym, ap, subst, refl, arith, inl, inr, ⊎_elim, ℕ, zero, suc, List, [], ◌∷◌}
 use Rattle.std.proofs.Common.{Option, Some, None, length}
-use Rattle.std.specs.Prelude.{◌⊎◌, true, false, if◌then◌else◌}
+use Rattle.std.specs.Prelude.{◌⊎◌, ◌&&◌, ◌||◌, Bool, true, false, codes, if◌then◌else◌}
+use Rattle.fdb_keys.specs.declared.refusal.Refusal.{Refusal}
 use Rattle.fdb_keys.specs.declared.refusal.Refusal.TheVariants as refusal
 use Rattle.fdb_keys.specs.declared.refusal.Refused.{Refused}
-use Rattle.fdb_keys.specs.Points.{point_lt}
+use Rattle.fdb_keys.specs.Points.{Point, point_lt}
+use Rattle.fdb_keys.specs.Ranges.{Range, in_set}
 use Rattle.fdb_keys.specs.Insertion as insertion
 use Rattle.fdb_txn.specs.book.Transactions.{Transaction}
 use Rattle.fdb_txn.specs.book.Book.{Place, head_at, placed}
 use Rattle.fdb_txn.specs.book.Places.{place_at}
 use Rattle.fdb_txn.specs.rules.Admission.{committed, is_fresh}
+use Rattle.fdb_proxy.specs.Verdicts.{conflict_at}
 use Rattle.fdb_client.specs.Programs.{commit_request_of}
 use Rattle.fdb_client.specs.declared.program.Transcript.{Transcript}
 use Rattle.fdb_roles.specs.SmallBooks.{reads_and_sets, two_in_one_entry}
 use Rattle.fdb_sections.specs.Absent.{IsNowhere}
-use Rattle.fdb_sections.specs.Examples.{far, opened}
+use Rattle.fdb_sections.specs.Commits.{Back}
+use Rattle.fdb_sections.specs.Examples.{a_and_b, far, only_a, opened}
+use Rattle.fdb_sections.specs.Receipts.{IsTurnedDown}
 use Rattle.fdb_sections.specs.Sessions.{Session}
 use Rattle.fdb_sections.proofs.laws.worked_examples.Goals as goal
 
@@ -63,18 +68,70 @@ of-far (suc entry) place there is = absurd cc
 abbrev session_of : Place × List Place → ℕ
 session_of there = there.0.transaction.id.session
 
+-- what is in both sets of a range and itself is in the range
+in-both : (b : Bool) → b ≡ ((b && b && true && true) || false)
+in-both true = refl
+in-both false = refl
+
+second-down : IsTurnedDown [] two_in_one_entry (reads_and_sets 1 None) refusal.NotCommitted only_a
+unfolding point_lt insertion.inserted
+second-down = record {
+  entry = 0;
+  place = 1;
+  there = (second, first ∷ []);
+  there_is = refl;
+  asked = refl;
+  uncommitted = refl;
+  why_is = refl;
+  conflicts = λ x. in-both (in_set only_a x);
+}
+
+late-down : IsTurnedDown [] far (reads_and_sets 1 None) refusal.TransactionTooOld []
+unfolding point_lt insertion.inserted
+late-down = record {
+  entry = 0;
+  place = 0;
+  there = (late, []);
+  there_is = refl;
+  asked = refl;
+  uncommitted = refl;
+  why_is = refl;
+  conflicts = λ x. refl;
+}
+
+-- of which keys the second one is told
+second-set : (why : Refusal) (conflict : List Range) (x : Point)
+    → IsTurnedDown [] two_in_one_entry (reads_and_sets 1 None) why conflict
+    → in_set conflict x ≡ conflict_at [] (Some (second, first ∷ [])) x
+second-set why conflict x down = ⊎_elim
+    (λ same. let wrong : 0 ≡ 1 =
+    ap session_of same ∙ ap (λ (t : Transaction). t.id.session) down.asked in absurd (omega (arith, wrong)))
+    (λ same. subst (λ (there : Place × List Place). in_set conflict x ≡ conflict_at [] (Some there) x) (sym same)
+    (down.conflicts x))
+    (of-two down.entry down.place down.there down.there_is)
+
+pub returns-clause-conflicts : goal.returns-clause-conflicts
+unfolding point_lt insertion.inserted
+returns-clause-conflicts c = (
+  (
+    (λ same. second-down),
+    (λ same. absurd cc),
+    (λ same. absurd cc),
+    (λ other. absurd (other refl)),
+  ),
+  (λ tells. let wrong : false ≡ true = second-set refusal.NotCommitted [] (codes "a") (tells.0 refl) in cc),
+  (λ tells. let wrong : true ≡ false = second-set refusal.NotCommitted a_and_b (codes "b") (tells.0 refl) in cc),
+  ((λ same. absurd cc), (λ same. late-down), (λ same. absurd cc), (λ other. refl)),
+  (λ tells. let wrong : only_a ≡ [] = tells.3 (λ (same : refusal.TransactionTooOld ≡ refusal.NotCommitted). cc) in cc),
+  ((λ same. absurd cc), (λ same. absurd cc), (λ same. absurd cc), (λ other. refl)),
+  (λ tells. let wrong : only_a ≡ [] = tells.3 (λ (same : refusal.CommitUnknownResult ≡ refusal.NotCommitted). cc) in
+      cc),
+)
+
 pub returns-clause-turned_down : goal.returns-clause-turned_down
 unfolding point_lt insertion.inserted
 returns-clause-turned_down c = (
-  record {
-    entry = 0;
-    place = 1;
-    there = (second, first ∷ []);
-    there_is = refl;
-    asked = refl;
-    uncommitted = refl;
-    why_is = refl;
-  },
+  second-down,
   (λ down. ⊎_elim
       (λ same. let wrong : 0 ≡ 1 =
       ap session_of same ∙ ap (λ (t : Transaction). t.id.session) down.asked in omega (arith, wrong))
@@ -89,15 +146,7 @@ returns-clause-turned_down c = (
       ap session_of same ∙ ap (λ (t : Transaction). t.id.session) down.asked in omega (arith, wrong))
       (of-two down.entry down.place down.there down.there_is)),
   (λ down. nowhere down.entry down.place down.there down.there_is),
-  record {
-    entry = 0;
-    place = 0;
-    there = (late, []);
-    there_is = refl;
-    asked = refl;
-    uncommitted = refl;
-    why_is = refl;
-  },
+  late-down,
   (λ down. let wrong : refusal.NotCommitted ≡ refusal.TransactionTooOld =
       subst (λ (there : Place × List Place). refusal.NotCommitted
       ≡ (if is_fresh there.0 then refusal.NotCommitted else refusal.TransactionTooOld))
@@ -150,7 +199,7 @@ returns-clause-full_books c = (
       (λ unknown. cc (unknown.1))
       told),
   (λ told. ⊎_elim (λ seen. ⊎_elim (λ so. cc (so.0)) (λ shown. cc (shown.0)) seen.1) (λ unknown. cc (unknown.1)) told),
-  ((λ same. absurd cc), (λ same. absurd cc), (λ same. refl)),
+  ((λ same. absurd cc), (λ same. absurd cc), (λ same. refl), (λ other. refl)),
   (λ tells. let wrong : 1 ≡ 2 = tells.2 refl in omega (arith, wrong)),
 )
 
@@ -161,7 +210,7 @@ pub returns-clause-untaken : goal.returns-clause-untaken
 returns-clause-untaken c = (
   (λ is. (refl, refl), λ wrong. absurd cc),
   (λ is. let same : None ≡ Some (opened 100) = ap (λ (it : Session). it.current) (is.0 refl).1 in absurd cc),
-  (λ is. let why : refusal.CommitUnknownResult ≡ refusal.NoMemory = ap (λ (it : Refused (Option Transcript)). it.why)
+  (λ is. let why : refusal.CommitUnknownResult ≡ refusal.NoMemory = ap (λ (it : Refused Back). it.why)
       (is.0 refl).0 in absurd cc),
   (λ wrong. absurd cc, λ is. (inl (refl, λ without. tt), refl)),
   (λ is. ⊎_elim (λ so. cc (so.0)) (λ shown. cc (shown.0)) (is.1 refl).0),

@@ -95,6 +95,7 @@ const ONE_BATCH: &str = "\
     answer 0 > refused 9002 NotYet 100
     report 0 > committed 100
     answer 0 > answer 0=100/0 1=1020
+    conflict 1 > conflict a:a%00
     end > checked 1
 ";
 

@@ -32,6 +32,7 @@ pub const GAP_FILLED: &str = "\
     submit 1 0
     seal 0 100 > entry 2 version 300 prev 200 places 1
     drive 0 > answer 1=1020
+    conflict 1 > conflict ab:ab%00
     end > checked 2
 ";
 

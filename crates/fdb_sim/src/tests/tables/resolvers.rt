@@ -29,6 +29,7 @@ pub const WRITE_SKEW: &str = "\
     logged 1 0
     report 0 > committed 200
     answer 0 > answer 1=1020
+    conflict 1 > conflict z:z%00
     end > checked 1
 ";
 
@@ -64,6 +65,8 @@ const FALSE_CONFLICT: &str = "\
     submit 2 0
     seal 0 100 > entry 2 version 300 prev 200 places 1
     drive 0 > answer 2=1020
+    conflict 2 > conflict a:a%00
+    conflict 0 > refused 9015 NoTransaction
     end > checked 1
 ";
 

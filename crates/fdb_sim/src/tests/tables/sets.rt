@@ -36,6 +36,7 @@ const WRITE_RANGE_ALONE: &str = "\
     submit 1 0
     seal 0 100 > entry 1 version 200 prev 100 places 1
     drive 0 > answer 1=1020
+    conflict 1 > conflict b:b%00
     get 5 a > refused 9015 NoTransaction
     grant 7 > refused 9016 Unknown
     end > checked 1

@@ -239,6 +239,7 @@ returns c =
       commit_proxies = it.tied;
       grv_proxies = before.grv_proxies;
       opened = opened;
+      conflicts = before.conflicts;
     })) (unused first) it.goes_on
     (ap (λ (replies : List (ℕ × Outcome)). answered.Answers replies) (c.from_vec.ensures ∙ replies))
     (ap₂ (λ (acknowledged : List Placed) (sessions : Sessions). record (machine_of k0) {

@@ -11,7 +11,7 @@ use Rattle.fdb_core.proofs.refinement.commit_proxy.Failing.{decides-there, proxy
 use Rattle.fdb_core.proofs.refinement.RestoringLemmas.{flag-at, restored}
 use Rattle.fdb_core.proofs.refinement.StepLemmas.{fails, kept, left, refused-restored, refuses}
 use Rattle.fdb_core.proofs.cluster.Cluster.decide.Goals as goal
-use Rattle.fdb_core.proofs.cluster.Cluster.decide.Goals.{After-decide, In_ok-outcomes}
+use Rattle.fdb_core.proofs.cluster.Cluster.decide.Goals.{After-decide, In_ok-decision}
 
 -- a proxy that has failed decides nothing
 pub returns-then-is_failed : goal.returns-then-is_failed
@@ -43,23 +43,23 @@ module _ (c : After-decide) where
   was : slice_get c.requires.roles.commit_proxies.items c.args.proxy ≡ Some c.index_mut.result.now
   was = proxy-was c.args.self.now c.requires c.args.proxy c.index_mut.result.now here working
 
-pub returns-in_err-outcomes : goal.returns-in_err-outcomes
-returns-in_err-outcomes c =
+pub returns-in_err-decision : goal.returns-in_err-decision
+returns-in_err-decision c =
     let k = c.args.self.now in
     let tied = c.requires in
     let decide = step.Decide c.args.proxy in
     let role = c.index_mut.result.now in
-    let why = c.in_err-outcomes.field-0.0 in
-    let at = (goal.at.returns-in_err-outcomes c).After-decide in
+    let why = c.in_err-decision.field-0.0 in
+    let at = (goal.at.returns-in_err-decision c).After-decide in
     left k decide c.from_residual.result _ why (search rules)
     (unless-map (ran_out (Err why)) _ _
     (λ same. refused-restored k decide tied why (unused at) same)
     (is-refused (restored k tied) tied.refines c.args.proxy role c.decide.new.self (was at) why
-    c.in_err-outcomes.ensures.wrong c.in_err-outcomes.ensures.decides))
-    (proxy-kept k tied c.args.proxy role c.decide.new.self (here at) (working at) c.in_err-outcomes.ensures.refused)
+    c.in_err-decision.ensures.wrong c.in_err-decision.ensures.decides))
+    (proxy-kept k tied c.args.proxy role c.decide.new.self (here at) (working at) c.in_err-decision.ensures.refused)
 
 -- the number of the entry that it decided, and what stands in the pool for it
-module _ (c : In_ok-outcomes)
+module _ (c : In_ok-decision)
     (at : slice_get c.args.self.now.commit_proxies.items c.args.proxy ≡ Some c.index_mut.result.now)
     (before : slice_get c.requires.roles.commit_proxies.items c.args.proxy ≡ Some c.index_mut.result.now) where
   number : c.index-2.result.now.entry ≡ c.index_mut.result.now.entry
@@ -69,32 +69,39 @@ module _ (c : In_ok-outcomes)
 
   pooled : (c.index-2.result.now.entry < length c.args.self.now.messages.items)
       × (c.index-2.result.now.entry < length c.args.self.now.decided.items)
+      × (c.index-2.result.now.entry < length c.args.self.now.conflicts.items)
   pooled = in-pool (restored c.args.self.now c.requires) c.requires.refines c.args.proxy c.index_mut.result.now
       c.decide.new.self before
-      c.in_ok-outcomes.outcomes c.in_ok-outcomes.messages c.in_ok-outcomes.ensures.wrong
-      c.in_ok-outcomes.ensures.decides c.index-2.result.now.entry number
+      c.in_ok-decision.decision c.in_ok-decision.messages c.in_ok-decision.ensures.wrong
+      c.in_ok-decision.ensures.decides c.index-2.result.now.entry number
 
 pub index_mut-requires-2 : goal.index_mut-requires-2
 index_mut-requires-2 c =
     let found = goal.at.index_mut-requires-2 c in
-    let inside = (pooled found.In_ok-outcomes (here found.After-decide) (was found.After-decide)).0 in
+    let inside = (pooled found.In_ok-decision (here found.After-decide) (was found.After-decide)).0 in
     search rules
 
 pub index_mut-requires-3 : goal.index_mut-requires-3
 index_mut-requires-3 c =
     let found = goal.at.index_mut-requires-3 c in
-    let inside = (pooled found.In_ok-outcomes (here found.After-decide) (was found.After-decide)).1 in
+    let inside = (pooled found.In_ok-decision (here found.After-decide) (was found.After-decide)).2 in
     search rules
 
--- the batch is decided, and its messages are in the pool
+pub index_mut-requires-4 : goal.index_mut-requires-4
+index_mut-requires-4 c =
+    let found = goal.at.index_mut-requires-4 c in
+    let inside = (pooled found.In_ok-decision (here found.After-decide) (was found.After-decide)).1 in
+    search rules
+
+-- the batch is decided, and its messages and conflict sets are kept
 pub returns : goal.returns
 returns c =
     let k = c.args.self.now in
-    let found = (goal.at.returns c).In_ok-outcomes in
+    let found = (goal.at.returns c).In_ok-decision in
     let at = (goal.at.returns c).After-decide in
     proxy-goes_on k c.requires (step.Decide c.args.proxy) c.args.proxy c.index_mut.result.now c.decide.new.self _ _
     (here at) (working at) refl refl refl refl (unused at)
     (is-decided (restored k c.requires) c.requires.refines c.args.proxy c.index_mut.result.now c.decide.new.self
     (was at)
-    c.in_ok-outcomes.outcomes c.in_ok-outcomes.messages c.in_ok-outcomes.ensures.wrong c.in_ok-outcomes.ensures.decides
+    c.in_ok-decision.decision c.in_ok-decision.messages c.in_ok-decision.ensures.wrong c.in_ok-decision.ensures.decides
     c.index-2.result.now.entry (number found (here at) (was at)))

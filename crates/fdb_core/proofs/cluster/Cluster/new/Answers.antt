@@ -1,6 +1,6 @@
 use Rattle.std.proofs.Common.{◌∙◌, refl, ap, suc, false, length, map, arith, rules, []}
 use Rattle.fdb_sequencer.specs.Sequencer.{Sequencer}
-use Rattle.fdb_core.specs.refinement.Cluster.{BookRefines, sessions_of}
+use Rattle.fdb_core.specs.refinement.Cluster.{BookRefines, ConflictsRefine, sessions_of}
 use Rattle.fdb_core.specs.refinement.commit_proxy.Ties.{ReadsWithin}
 use Rattle.fdb_core.specs.refinement.resolver.Resolving.{PartsRefine}
 use Rattle.fdb_core.specs.refinement.Restoring.{proxy_failed, resolver_failed, log_failed, shard_failed}
@@ -33,9 +33,9 @@ returns-clause-state c =
         logs = taken-start config c.in_ok-logs.logs.items c.in_ok-logs.shards.items logs.0 logs.1 i;
         shards = progress-start config c.in_ok-logs.logs.items c.in_ok-logs.shards.items logs.0 logs.1 i;
         grv_proxies = (ap (map sessions_of) proxies.2 ∙ asked-start config.proxies) i;
-        sessions = c.new-6.ensures i;
+        sessions = c.new-7.ensures i;
         committed = ap (λ (it : Sequencer). it.committed) judges.0 i;
-        acknowledged = c.new-7.ensures.items i;
+        acknowledged = c.new-8.ensures.items i;
       };
       failed = record {
         commit_proxies = all-same proxy_failed false config.proxies c.in_ok-commit_proxies.commit_proxies.items
@@ -58,6 +58,7 @@ returns-clause-tied c =
     let judges = c.in_ok-sequencer.ensures in
     let book : BookRefines config [] [] [] [] = search rules in
     let parts : PartsRefine config.resolver_splits [] [] = search rules in
+    let conflicts : ConflictsRefine config.resolver_splits [] [] [] = search rules in
     all-tied _ (record {
       legal = legal-from config c.requires.served;
       room = rw c.new.ensures.items (omega arith);
@@ -75,5 +76,6 @@ returns-clause-tied c =
           (commit_proxies-start config c.in_ok-commit_proxies.commit_proxies.items proxies.0 proxies.1
           config.proxies (suc (length config.resolver_splits)));
       grv_proxies = grv_proxies-start config c.in_ok-commit_proxies.grv_proxies.items proxies.2;
-      opened = rw c.new-6.ensures (open-new (ReadsWithin _));
+      opened = rw c.new-7.ensures (open-new (ReadsWithin _));
+      conflicts = rw (c.new.ensures.items, c.new-3.ensures.items, c.new-6.ensures.items) conflicts;
     })

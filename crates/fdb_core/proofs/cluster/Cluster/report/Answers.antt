@@ -176,5 +176,6 @@ returns c =
             grv_proxies = before.grv_proxies;
             opened = open-weaken (ReadsWithin k.sequencer.committed) (ReadsWithin committed)
                 (λ transcript below. omega (arith, below, above)) k.sessions before.opened;
+            conflicts = before.conflicts;
           }),
     )

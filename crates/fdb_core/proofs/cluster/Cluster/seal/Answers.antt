@@ -27,7 +27,7 @@ use Rattle.fdb_core.specs.refinement.commit_proxy.Ties.{CommitProxyRefines, IsNe
 use Rattle.fdb_roles.specs.Entries.{entry_of}
 use Rattle.fdb_machine.proofs.Exports.{unless, unless-lacked, seals-transition, length-sealed}
 use Rattle.fdb_roles.proofs.Exports.{gives, map-at, map-set, read-there}
-use Rattle.fdb_core.proofs.refinement.BookPushes.{book-push, resolvers-push, parts-push, logs-push}
+use Rattle.fdb_core.proofs.refinement.BookPushes.{book-push, conflicts-push, resolvers-push, parts-push, logs-push}
 use Rattle.fdb_core.proofs.refinement.commit_proxy.StateSealing.{learns, ticket-for}
 use Rattle.fdb_core.proofs.refinement.commit_proxy.Sealing.{ticket_for, next-ticket, reads-below, entry-is, proxy-is}
 use Rattle.fdb_core.proofs.refinement.commit_proxy.Sealing.{follows, rises}
@@ -104,8 +104,8 @@ returns-in_err-make_room c =
     let same : c.from_residual-in_err-make_room.result ≡ Err NoMemory = search rules in
     lacked k (step.Seal c.args.proxy c.args.advance) c.from_residual-in_err-make_room.result _ NoMemory same refl
     (room-left k c.make_room.new.book c.make_room.new.entry_proxies c.make_room.new.decided c.make_room.new.pooled
-    c.make_room.new.messages room.book room.entry_proxies room.decided room.parts room.messages c.requires c.args.proxy
-    c.args.advance)
+    c.make_room.new.messages room.book room.entry_proxies room.decided room.parts room.messages
+    c.make_room.new.conflicts room.conflicts c.requires c.args.proxy c.args.advance)
 
 pub index_mut-commit_proxy-requires : goal.index_mut-commit_proxy-requires
 index_mut-commit_proxy-requires c =
@@ -146,7 +146,8 @@ returns-in_err-batch c =
     c.requires.refines.book.entries c.requires.refines.book.horizons)
     (seal-left k c.make_room.new.book c.make_room.new.entry_proxies c.make_room.new.decided
     c.make_room.new.pooled c.make_room.new.messages room.book room.entry_proxies room.decided room.parts room.messages
-    c.requires c.args.proxy c.args.advance role c.seal.new.self ticket (there before) (working before)
+    c.make_room.new.conflicts room.conflicts c.requires c.args.proxy c.args.advance role c.seal.new.self ticket
+    (there before) (working before)
     (idle-seen k.config k.book.items known role (tie before) ∙ idle before)
     (c.in_err-batch.ensures.left
     (learns k.config k.book.items known role (tie before) (idle before) ticket (next before)
@@ -184,6 +185,9 @@ returns c =
     added.messages ∙ ap (λ (all : List (Option (List LogMsg))). all ++ None ∷ []) room_made.messages in
     let parted : c.add_undecided.new.pooled.items ≡ k.parts.items ++ parts ∷ [] =
     added.parts ∙ ap (λ (all : List (List Part)). all ++ parts ∷ []) room_made.parts in
+    let sets : c.push_reserved-2.new.self.items ≡ k.conflicts.items ++ [] ∷ [] =
+    c.push_reserved-2.ensures.items
+    ∙ (λ i. room_made.conflicts i ++ c.new.ensures i ∷ []) in
     let places : length c.as_slice.result.now ≡ length (take place_limit role.waiting) =
     ap (λ (batch : List Transaction). length batch) c.as_slice.ensures.places
     ∙ length-sealed role.waiting batch is.batch_is in
@@ -194,6 +198,7 @@ returns c =
       decided = c.add_undecided.new.decided;
       parts = c.add_undecided.new.pooled;
       messages = c.add_undecided.new.messages;
+      conflicts = c.push_reserved-2.new.self;
       commit_proxies = with_item now.commit_proxies c.args.proxy later;
       sequencer = c.issue.new.sequencer;
     } in
@@ -218,6 +223,9 @@ returns c =
           (tied k old c.args.proxy c.args.advance role at ticket for_it batch parts later is);
       grv_proxies = old.grv_proxies;
       opened = rw c.issue.ensures old.opened;
+      conflicts = rw (book, flags, sets)
+          (conflicts-push k.book.items entry k.config.resolver_splits k.decided.items k.conflicts.items
+          old.book.each_flagged old.conflicts);
     }))
     (unused before)
     (seals-transition (machine_of k) c.args.proxy c.args.advance (seen_as role)

@@ -14,6 +14,6 @@ pub invariant_of-result : goal.invariant_of-result
 invariant_of-result c = (
   c.in_ok-cluster.ensures.tied,
   subst (λ (state : State). Invariant state.machine) (sym c.in_ok-cluster.ensures.state) (sound-start c.args.config),
-  let legal : config_fault c.args.config ≡ None = search rules in
+  let legal : config_fault c.args.config ≡ None = search (c.in_ok-check, rules) in
       ap (λ (state : State). config_fault state.machine.config) c.in_ok-cluster.ensures.state ∙ legal,
 )

@@ -11,7 +11,7 @@ pub loop-place-init : goal.loop-place-init
 loop-place-init g c = record {
   goes_on = search rules;
   ends = search rules;
-  left = outcomes-start g.B.ClusterName.config _ _ _ _ _ c.requires.by_rule refl (cc) (cc);
+  left = outcomes-start g.B.ClusterName.config c.args.self.now c.args.self.now _ _ _ c.requires.by_rule refl (cc) (cc);
   told = told-start c.args.self.now.front _ _ _ _ (cc) (cc) c.requires.nothing;
 }
 
@@ -19,7 +19,8 @@ pub reply_of-reply-requires-clause-by_rule : goal.reply_of-reply-requires-clause
 reply_of-reply-requires-clause-by_rule g c =
     let step = rw c.in-Some.is at c.next.ensures.steps in
     let config = g.B.ClusterName.config in
-    rw step.1 (outcome-first config c.args.self.now.front _ _ _ (c.in-Some._id, c.in-Some.outcome) step.0.0
+    let at = c.args.self.now in
+    rw step.1 (outcome-first config at.front at.conflicts _ _ _ (c.in-Some._id, c.in-Some.outcome) step.0.0
     c.loop-place.invariant.left)
 
 pub loop-place-preserved : goal.loop-place-preserved
@@ -27,8 +28,8 @@ loop-place-preserved g c =
     let step = rw c.in-Some.is at c.next.ensures.steps in
     let config = g.B.ClusterName.config in
     let left =
-    outcomes-rest config c.args.self.now.front _ _ _ (c.in-Some._id, c.in-Some.outcome) step.0.0
-    c.loop-place.invariant.left in
+    outcomes-rest config c.args.self.now.front c.args.self.now.conflicts _ _ _ (c.in-Some._id, c.in-Some.outcome)
+    step.0.0 c.loop-place.invariant.left in
     let count = enumerate_count c.loop-place.place-iterator in
     let rest = into_iter_items (enumerate_source c.next.new.self) in
     let its = subst (λ (p : ℕ). IsReplyTo c.args.self.now.front p c.in-Some.outcome c.reply_of-reply.result) step.1

@@ -14,12 +14,13 @@ learn-requires g c =
     c.batch.ensures.value (c.is_ticket_of.ensures.0 c.if-not-is_ticket_of.false) in
     may-learn g.B.ClusterName.config c.self.inside.front c.args.front c.self.inside.state.proxy c.args.ticket.now is
     c.know_one_book.ensures.shorter c.know_entries.ensures c.know_horizons.ensures
-    (c.self.invariant (sym c.is_failed.ensures ∙ c.if-is_failed.false))
+    (c.self.invariant.0 (sym c.is_failed.ensures ∙ c.if-is_failed.false))
 
 pub invariant_of-self : goal.invariant_of-self
 invariant_of-self g c =
-    refused-there g.B.ClusterName.config c.self.inside.front c.self.inside.state.proxy c.learn.new.self.proxy
-    c.args.ticket.now c.self.invariant c.in_err-learn.ensures.refused c.in_err-learn.ensures.failed
+    refused-there g.B.ClusterName.config c.self.inside.front c.self.inside.conflicts c.self.inside.state.proxy
+    c.learn.new.self.proxy c.args.ticket.now c.self.invariant c.in_err-learn.ensures.refused
+    c.in_err-learn.ensures.failed
 
 pub returns-in_err-learn-clause-answers : goal.returns-in_err-learn-clause-answers
 returns-in_err-learn-clause-answers g c =
@@ -31,7 +32,7 @@ returns-in_err-learn-clause-answers g c =
     AnswersTicket c.from_residual.result at.front c.args.front at.state.proxy c.args.ticket.now) c.self.view_is
     (rw same (refused-as g.B.ClusterName.config c.self.inside.front c.args.front c.self.inside.state.proxy
     c.args.ticket.now is c.know_one_book.ensures.shorter c.know_entries.ensures c.know_horizons.ensures
-    (c.self.invariant (sym c.is_failed.ensures ∙ c.if-is_failed.false)) _ c.in_err-learn.field-0.0 _
+    (c.self.invariant.0 (sym c.is_failed.ensures ∙ c.if-is_failed.false)) _ c.in_err-learn.field-0.0 _
     c.in_err-learn.ensures.answers))
 
 pub invariant_of-self-2 : goal.invariant_of-self-2
@@ -41,6 +42,7 @@ invariant_of-self-2 g c =
     c.batch.ensures.value (c.is_ticket_of.ensures.0 c.if-not-is_ticket_of.false) in
     is-there g.B.ClusterName.config c.self.inside.front c.args.front c.self.inside.state.proxy c.args.ticket.now is
     c.know_one_book.ensures.shorter c.know_entries.ensures c.know_horizons.ensures
-    (c.self.invariant (sym c.is_failed.ensures ∙ c.if-is_failed.false)) c.learn.new.self.proxy
+    (c.self.invariant.0 (sym c.is_failed.ensures ∙ c.if-is_failed.false)) c.self.inside.conflicts
+    c.learn.new.self.proxy
     (answers-fault (learn_fault c.self.inside.state.proxy c.args.ticket.now) c.in_ok-learn.field-0 _
     c.in_ok-learn.ensures.answers).1

@@ -8,4 +8,4 @@ returns-clause-sent g c =
     subst (λ (at : CommitProxyAtFront). IfOk c.messages.result (AreLastMessages g.B.ClusterName.config at.front))
     c.self.view_is
     (sends-messages g.B.ClusterName.config c.self.inside.front c.self.inside.state.proxy c.messages.result
-    c.self.invariant c.messages.ensures)
+    c.self.invariant.0 c.messages.ensures)

@@ -7,5 +7,6 @@ pub returns-clause-sent : goal.returns-clause-sent
 returns-clause-sent g c =
     subst (λ (at : CommitProxyAtFront). IfOk c.parts.result (AreLastParts g.B.ClusterName.config at.front))
     c.self.view_is
-    (sends-parts g.B.ClusterName.config c.self.inside.front c.self.inside.state.proxy c.parts.result c.self.invariant
+    (sends-parts g.B.ClusterName.config c.self.inside.front c.self.inside.state.proxy c.parts.result
+    c.self.invariant.0
     c.parts.ensures)
