@@ -43,8 +43,8 @@ stamping key = (op.Write (Stamped key (codes "0123456789") 0), reply.Done)
 abbrev pub IsStampingBoth : Transcript → Type 0
 IsStampingBoth transcript = transcript.ops ≡ stamping (codes "a") ∷ stamping (codes "b") ∷ []
 
--- Who sets both keeps it, by stamps too, and so does who copies what was read; who copies a snapshot doesn't, since that
--- may be an old one, nor does who forgets the copy.
+-- Who sets both keeps it, by stamps too, and so does who copies what was read; who copies a snapshot doesn't, since
+-- that may be an old one, nor does who forgets the copy.
 abbrev pub WorkedLayers : Type 0
 WorkedLayers =
     Keeps IsSettingBoth Agree × Keeps IsStampingBoth Agree × Keeps (IsCopying false) Agree

@@ -1,5 +1,5 @@
-// The sets of an open transaction, and the conflict set of a refused one. Showing them is no step: the world stays as it
-// is.
+// The sets of an open transaction, and the conflict set of a refused one. Showing them is no step: the world stays as
+// it is.
 ghost use Rattle.std.specs.Prelude.{◌≡◌, ◌++◌, List, Option, Ok, Err, MatchResult, OnOk, string_bytes};
 ghost use Rattle.fdb_keys.specs.Ranges.{Range};
 ghost use Rattle.fdb_machine.specs.machine.Conflicts.{IsConflictOf};

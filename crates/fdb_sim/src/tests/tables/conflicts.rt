@@ -56,8 +56,8 @@ const BOTH_RESOLVERS: &str = "\
     end > checked 1
 ";
 
-// The keys from m to t go over to the first resolver between two writes: each owner of then hands over its part. The set
-// is told from the answer on, until the session begins another transaction.
+// The keys from m to t go over to the first resolver between two writes: each owner of then hands over its part. The
+// set is told from the answer on, until the session begins another transaction.
 const A_PART_OF_EACH_OWNER: &str = "\
     config proxies 1 logs 1 resolvers m shards - book 100
     seal 0 100 > entry 0 version 100 prev 0 places 0
