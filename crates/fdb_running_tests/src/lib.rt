@@ -16,6 +16,10 @@ mod gates;
 #[cfg(test)]
 mod growths;
 #[cfg(test)]
+mod layer_calls;
+#[cfg(test)]
+mod layered;
+#[cfg(test)]
 mod moves;
 #[cfg(test)]
 mod queue;

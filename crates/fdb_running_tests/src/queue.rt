@@ -7,7 +7,7 @@ use bytes::Bytes;
 use fdb_keys::{Items, Key, KeyRange, Refusal};
 use fdb_making::{coded, count_config};
 use fdb_mutations::Mutation;
-use fdb_runtime::{Blank, ClusterName, Config, Database, NoGate, Session};
+use fdb_runtime::{Blank, ClusterName, Config, Database, NoGate, ReadOptions, Session};
 use std::alloc::Global;
 use std::marker::Brand;
 use std::process::Abort;
@@ -83,7 +83,7 @@ fn pop<B: ClusterName, R: Wait>(
 ) -> Result<Option<u8>, Refusal> {
     session.begin(rt, alloc)?;
     let queue = KeyRange::new(alloc, b"queue/", b"queue0")?;
-    let pairs = session.get_range(rt, alloc, &queue, 0, false, false)?;
+    let pairs = session.get_range(rt, alloc, &queue, ReadOptions::all())?;
     let item = take_first(alloc, session, pairs)?;
     drop(receipt_of(session.commit(rt, alloc))?);
     Ok(item)

@@ -9,7 +9,7 @@ use crate::running::{
 use fdb_keys::{KeyRange, Refusal};
 use fdb_making::{coded, count_config, keys_of};
 use fdb_mutations::Mutation;
-use fdb_runtime::{Blank, ClusterName, Config, Database, NoGate, Session};
+use fdb_runtime::{Blank, ClusterName, Config, Database, NoGate, ReadOptions, Session};
 use std::alloc::Global;
 use std::marker::Brand;
 use std::process::Abort;
@@ -241,7 +241,12 @@ fn count_of<B: ClusterName, R: Wait>(
     reverse: bool,
 ) -> Result<usize, Refusal> {
     let range = KeyRange::new(alloc, b"a", b"z")?;
-    match session.get_range(rt, alloc, &range, limit, reverse, false) {
+    let options = ReadOptions {
+        limit,
+        reverse,
+        snapshot: false,
+    };
+    match session.get_range(rt, alloc, &range, options) {
         Ok(pairs) => Ok(pairs.len()),
         Err(why) => Err(why),
     }

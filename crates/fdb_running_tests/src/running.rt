@@ -7,7 +7,8 @@ use fdb_keys::{Key, KeyRange, RangeSet, Refusal, Refused};
 use fdb_making::{are_pairs, are_ranges, both, made_of};
 use fdb_mutations::Mutation;
 use fdb_runtime::{
-    ClusterName, Config, Database, Entry, Placed, Receipt, Record, Session, Spot, Transcript,
+    ClusterName, Config, Database, Entry, Placed, ReadOptions, Receipt, Record, Session, Spot,
+    Transcript,
 };
 use std::alloc::Global;
 use std::marker::Brand;
@@ -193,7 +194,12 @@ pub(crate) fn reads_just<B: ClusterName, R: Wait>(
 ) -> Result<bool, Refusal> {
     let (begin, end, limit, reverse, wanted) = *asked;
     let range = KeyRange::new(alloc, begin, end)?;
-    match session.get_range(rt, alloc, &range, limit, reverse, is_snapshot) {
+    let options = ReadOptions {
+        limit,
+        reverse,
+        snapshot: is_snapshot,
+    };
+    match session.get_range(rt, alloc, &range, options) {
         Ok(pairs) => Ok(are_pairs(pairs.as_slice(), wanted)),
         Err(why) => Err(why),
     }

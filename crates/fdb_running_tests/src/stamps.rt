@@ -8,7 +8,9 @@ use bytes::Bytes;
 use fdb_keys::{Items, Key, KeyRange, Refusal};
 use fdb_making::{both, code_of, coded, count_config, keys_of};
 use fdb_mutations::Mutation;
-use fdb_runtime::{Blank, ClusterName, Config, Database, Gate, NoGate, Role, Session, Spot, Stamp};
+use fdb_runtime::{
+    Blank, ClusterName, Config, Database, Gate, NoGate, ReadOptions, Role, Session, Spot, Stamp,
+};
 use fdb_txn::PLACE_LIMIT;
 use std::alloc::Global;
 use std::marker::Brand;
@@ -222,7 +224,7 @@ fn read_back<B: ClusterName, R: Wait + Abort>(
 ) -> Done {
     session.begin(rt, alloc)?;
     let range = KeyRange::new(alloc, b"k", b"l")?;
-    let pairs = session.get_range(rt, alloc, &range, 0, false, false)?;
+    let pairs = session.get_range(rt, alloc, &range, ReadOptions::all())?;
     let mut seen: Vec<bool> = Vec::new(alloc);
     seen.resize(PLACE_LIMIT, false)?;
     let count = count_places(told, 200, &mut seen);
@@ -320,7 +322,12 @@ fn range_code<B: ClusterName, R: Wait>(
 ) -> Result<u32, Refusal> {
     let (begin, end, limit, reverse, _code) = *asked;
     let range = KeyRange::new(alloc, begin, end)?;
-    Ok(code_of(session.get_range(rt, alloc, &range, limit, reverse, is_snapshot)))
+    let options = ReadOptions {
+        limit,
+        reverse,
+        snapshot: is_snapshot,
+    };
+    Ok(code_of(session.get_range(rt, alloc, &range, options)))
 }
 
 // The codes of a get of the key, as an ordinary read and as a snapshot read.

@@ -1,1 +1,3 @@
+mod PagesLemmas
 mod UnreadableLemmas
+mod WritingLemmas

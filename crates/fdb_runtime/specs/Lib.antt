@@ -1,1 +1,5 @@
 pub mod Databases
+pub mod Statuses
+pub mod Walks
+pub mod Works
+pub mod Writing

@@ -1,22 +1,24 @@
-ghost use Rattle.std.specs.Prelude.{◌≡◌, ◌⊎◌, ⊤, suc, length, None, OnOk, OnErr, IfErr};
+ghost use Rattle.std.specs.Prelude.{◌≡◌, ◌⊎◌, ⊤, suc, length, None, OnOk, OnErr, IfOk, IfErr};
 ghost use Rattle.fdb_keys.specs.Answers.{Answers, AnswersExactly};
 ghost use Rattle.fdb_keys.specs.declared.refusal.Refusal.TheVariants.{Failed, NoMemory};
 ghost use Rattle.fdb_proxy.specs.Configs.{config_fault};
 ghost use Rattle.fdb_runtime.specs.Databases.{start_fault, session_fault, new_session};
 ghost use Rattle.fdb_runtime.specs.Databases.{AnswersMove, is_bad_move};
+ghost use Rattle.fdb_runtime.specs.Statuses.{IsOfFront};
 ghost use Rattle.fdb_sequencer.specs.Sequencer.{set_window_fault};
 
 use crate::gate::Gate;
 use crate::session::Session;
 use crate::shared::Shared;
 use crate::shared::shard::{hold_all, lent_of};
+use crate::status::{Status, status_of};
 use crate::threads::gated::Gated;
 use crate::threads::team::Team;
 use crate::threads::workers::Workers;
 use fdb_book::{Blank, Book};
 use fdb_keys::{KeyRange, Refusal};
 use fdb_proxy::Config;
-use fdb_sections::{ClusterName, GrantMessage, Record, ShardState};
+use fdb_sections::{DatabaseName, GrantMessage, Record, ShardState};
 use fdb_txn::Move;
 use std::alloc::Global;
 use std::marker::Model;
@@ -25,13 +27,13 @@ use std::thread::Threads;
 
 /// A running database: a thread for each resolver, shard and proxy of either kind. It stays on the thread that started
 /// it, and has to be closed on every path, which ends its threads. Contracts see how many sessions it has given.
-pub struct Database<B: ClusterName> {
+pub struct Database<B: DatabaseName> {
     shared: Arc<Shared<B>>,
     team: Team,
     sessions: u32,
 }
 
-impl<B: ClusterName> Model for Database<B> {
+impl<B: DatabaseName> Model for Database<B> {
     ghost use Rattle.std.specs.Prelude.{ℕ};
 
     ghost Value = { ℕ };
@@ -39,7 +41,7 @@ impl<B: ClusterName> Model for Database<B> {
     ghost view = { λ database. database.sessions };
 }
 
-impl<B: ClusterName + Send + Sync + 'static> Database<B> {
+impl<B: DatabaseName + Send + Sync + 'static> Database<B> {
     /// Starts a database on the cells of a blank. The name `B` lists these cells and has the configuration: who makes
     /// the blank hands it to a function over `B`, and picks the name at that call. An entry's version is `advance`
     /// above the one before it, 1 at least and 5,000,000 at most.
@@ -135,6 +137,15 @@ impl<B: ClusterName + Send + Sync + 'static> Database<B> {
         self.shared.set_window(rt, window)
     }
 
+    /// What the database tells of itself: its committed version, how many entries its book has room for yet, how far
+    /// its shards have come, and which logs and shards have failed. It waits for the sequencer, and for each log and
+    /// each shard, and holds one lock at a time, in O(1) time. Refused only as `NoMemory`.
+    pub fn status<R: Wait>(&self, rt: &R) -> Result<Status, Refusal>
+        ensures { IfOk result (λ status. IsOfFront B.config status.committed status.entries_left) }
+    {
+        status_of(rt, &*self.shared)
+    }
+
     /// Closes the database, and gives what it holds. What waits is refused as `Closed`, batches in flight end where no
     /// role has failed, and shards pull through the committed version. It waits for the end of all threads, and the
     /// database is gone whatever is answered.
@@ -170,7 +181,7 @@ fn check_start(blank: &Blank, config: &Config) -> Result<(), Refusal>
 
 // Starts all threads. Refused only as `NoMemory`; then some may have been started, and workers of others are gone.
 fn start_team<
-    B: ClusterName + Send + Sync + 'static,
+    B: DatabaseName + Send + Sync + 'static,
     G: Gate + 'static,
     R: Threads + Wait + Copy + Send + Sync + 'static,
 >(
@@ -201,14 +212,14 @@ fn lost(why: Refusal) -> Refusal
 }
 
 // What the shards have of every key at the committed version, where no log has failed.
-fn record_of<B: ClusterName, R: Wait>(rt: &R, shared: &Shared<B>) -> Result<Record<B>, Refusal> {
+fn record_of<B: DatabaseName, R: Wait>(rt: &R, shared: &Shared<B>) -> Result<Record<B>, Refusal> {
     check_logs(rt, shared)?;
     let granted = shared.granted(rt)?;
     record_at(rt, shared, &granted)
 }
 
 // Refused as `Failed` where a log has failed. It takes no memory.
-fn check_logs<B: ClusterName, R: Wait>(rt: &R, shared: &Shared<B>) -> Result<(), Refusal> {
+fn check_logs<B: DatabaseName, R: Wait>(rt: &R, shared: &Shared<B>) -> Result<(), Refusal> {
     for log in shared.logs() {
         if log.is_failed(rt) {
             return Err(Refusal::Failed);
@@ -218,7 +229,7 @@ fn check_logs<B: ClusterName, R: Wait>(rt: &R, shared: &Shared<B>) -> Result<(),
 }
 
 // What the shards have of every key at a version that was granted.
-fn record_at<B: ClusterName, R: Wait>(
+fn record_at<B: DatabaseName, R: Wait>(
     rt: &R,
     shared: &Shared<B>,
     granted: &GrantMessage<B>,
@@ -228,7 +239,7 @@ fn record_at<B: ClusterName, R: Wait>(
 }
 
 // The same of the shards whose locks are held.
-fn record_held<B: ClusterName>(
+fn record_held<B: DatabaseName>(
     alloc: Global,
     granted: &GrantMessage<B>,
     held: &[MutexGuard<'_, ShardState<B>>],

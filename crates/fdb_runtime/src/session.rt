@@ -10,6 +10,7 @@ ghost use Rattle.fdb_client.specs.TxnState.{with_op};
 ghost use Rattle.fdb_client.specs.declared.program.Op.TheVariants as operation;
 ghost use Rattle.fdb_client.specs.declared.program.Reply.TheVariants as answer;
 ghost use Rattle.fdb_roles.specs.Sessions.{OfOpen};
+ghost use Rattle.fdb_sections.specs.Asking.{HoldsOnRun};
 ghost use Rattle.fdb_sections.specs.Commits.{CommitAnswers};
 ghost use Rattle.fdb_client.specs.Programs.{program};
 ghost use Rattle.fdb_client.specs.Unreadable.{unreadable};
@@ -18,6 +19,7 @@ ghost use Rattle.fdb_sections.specs.ShardViews.{run_of};
 ghost use Rattle.fdb_sections.specs.Refusals.{is_of_begin, is_of_read};
 ghost use Rattle.fdb_sections.specs.Sessions.{learning, with_current};
 
+use crate::options::ReadOptions;
 use crate::shared::Shared;
 use crate::shared::snapshot::SharedShards;
 use crate::threads::reply::Slots;
@@ -26,12 +28,17 @@ use bytes::Bytes;
 use fdb_client::Transcript;
 use fdb_keys::{Items, Key, KeyRange, RangeSet, Refusal, Refused};
 use fdb_mutations::Mutation;
+use fdb_roles::Layer;
 use fdb_sections::{
-    Asked, Client, ClusterName, CommitReply, GrantMessage, GrantReply, Receipt, why_of,
+    Asked, Client, ClusterName, CommitReply, DatabaseName, GrantMessage, GrantReply, Layered,
+    Receipt, why_of,
 };
 use std::alloc::Global;
 use std::marker::Model;
 use std::sync::{Arc, Wait};
+
+mod current;
+mod writing;
 
 // What a session is told that can't begin. What begins aren't refused for is a role's fault.
 fn begin_refusal(why: Refusal) -> Refusal
@@ -70,7 +77,7 @@ fn shard_refusal(why: Refusal) -> Refusal
 }
 
 // And what it is told where a read of a range of the shards is refused: they refuse all as if memory had run out.
-fn range_refusal<B: ClusterName, R: Wait>(
+fn range_refusal<B: DatabaseName, R: Wait>(
     shards: &SharedShards<'_, B, R>,
     range: &KeyRange,
     why: Refusal,
@@ -90,14 +97,14 @@ fn range_refusal<B: ClusterName, R: Wait>(
 /// Contracts see its number, the number of its next transaction, what it has seen of the book, its mark, which is the
 /// greatest version that it knows of a receipt, and the transcript of its open transaction, if there is one.
 #[derive(Drop)]
-pub struct Session<B: ClusterName> {
+pub struct Session<B: DatabaseName> {
     number: u32,
     shared: Arc<Shared<B>>,
     client: Client<B>,
     slots: Slots<B>,
 }
 
-impl<B: ClusterName> Model for Session<B> {
+impl<B: DatabaseName> Model for Session<B> {
     ghost use Rattle.std.specs.Prelude.{◌≡◌, None};
     ghost use Rattle.fdb_sections.specs.Sessions.{Session as Seen};
 
@@ -109,7 +116,7 @@ impl<B: ClusterName> Model for Session<B> {
     ghost invariant = { λ it. it.client.submitted ≡ None };
 }
 
-impl<B: ClusterName> Session<B> {
+impl<B: DatabaseName> Session<B> {
     // The session of the number, which has seen nothing and began nothing.
     pub(crate) fn new(alloc: Global, number: u32, shared: Arc<Shared<B>>) -> Result<Self, Refusal>
         ensures { Answers result None (λ it. it
@@ -301,11 +308,11 @@ impl<B: ClusterName> Session<B> {
         }
     }
 
-    /// The pairs of the range after the open transaction's own writes, the first `limit` of them in key order, from the
-    /// last one backwards where `reverse`, and all where `limit` is 0: on the serial map of what the session has seen
-    /// of the book, at the transaction's read version. It is noted in the transcript. It reads page by page, of no more
-    /// than 256 pairs, and waits for each of the shards that a page looks at. It holds the lock of one shard at a time,
-    /// while that gives its part of one page, and none between two pages.
+    /// The pairs of the range after the open transaction's own writes, as the options say: the first `limit` of them in
+    /// key order, from the last one backwards where `reverse`, and all where `limit` is 0. They are those of the serial
+    /// map of what the session has seen of the book, at the transaction's read version. It is noted in the transcript.
+    /// It reads page by page, of no more than 256 pairs, and waits for each of the shards that a page looks at. It
+    /// holds the lock of one shard at a time, while that gives its part of one page, and none between two pages.
     ///
     /// Refused as `get` is, but as `AccessedUnreadable` only where what it scanned has a key that its own writes leave
     /// unreadable, which counts as a pair that is there. Such a read is never answered, but what the shards refuse and
@@ -322,15 +329,13 @@ impl<B: ClusterName> Session<B> {
         rt: &R,
         alloc: Global,
         range: &KeyRange,
-        limit: u32,
-        reverse: bool,
-        is_snapshot: bool,
+        options: ReadOptions,
     ) -> Result<Items<(Key, Bytes)>, Refusal>
         ensures answered { IfOk result (λ pairs. HasRead B.config.resolver_splits self.old
-            (operation.Range range.now limit reverse is_snapshot) (answer.Pairs pairs) self.new) }
+            (operation.Range range.now options.limit options.reverse options.snapshot) (answer.Pairs pairs) self.new) }
         ensures told { IfSome self.old.current (λ transcript.
             TellsUnreadable result (scans_unreadable (run_of B.config transcript.read_version self.old.front)
-            (program transcript.ops) range.now limit reverse)) }
+            (program transcript.ops) range.now options.limit options.reverse)) }
         ensures none { self.old.current ≡ None → result ≡ Err NoTransaction }
         ensures open { IfErr result (λ why. why ≡ NoTransaction → self.old.current ≡ None) }
         ensures refusals { IfErr result (λ why. is_of_read why ≡ true) }
@@ -339,7 +344,12 @@ impl<B: ClusterName> Session<B> {
         if self.client.read_version().is_none() {
             return Err(Refusal::NoTransaction);
         }
-        match self.range_open(rt, alloc, range, limit, reverse, is_snapshot) {
+        let ReadOptions {
+            limit,
+            reverse,
+            snapshot,
+        } = options;
+        match self.range_open(rt, alloc, range, limit, reverse, snapshot) {
             Ok(pairs) => Ok(pairs),
             Err(why) => Err(read_refusal(why)),
         }
@@ -373,8 +383,9 @@ impl<B: ClusterName> Session<B> {
         }
     }
 
-    /// Commits the open transaction, and gives its receipt, after which none is open. What wrote nothing is committed
-    /// at its read version, by the session alone. Everything else waits for the session's commit proxy.
+    /// Commits the open transaction, which the database's layer has to allow, and gives its receipt, after which none
+    /// is open. What wrote nothing is committed at its read version, by the session alone. Everything else waits for
+    /// the session's commit proxy.
     ///
     /// Refused as `NoTransaction` where none is open, as `TransactionTooLarge` where it has more than 10,000,000 bytes,
     /// and as `NoMemory` before its proxy took it; then nothing changes, it may be committed once more, and none is
@@ -389,6 +400,7 @@ impl<B: ClusterName> Session<B> {
         rt: &R,
         alloc: Global,
     ) -> Result<Receipt<B>, Refused<Option<(Transcript, RangeSet)>>>
+        requires { IfSome self.old.current B.allows }
         ensures { CommitAnswers B.config self.old result self.new }
     {
         let reply = match self.slots.outcomes() {
@@ -397,8 +409,8 @@ impl<B: ClusterName> Session<B> {
         };
         match self.client.commit() {
             Ok(Asked::Acknowledged(receipt)) => Ok(receipt),
-            Ok(Asked::ToCommit(sealed)) => {
-                let request = CommitRequest { sealed, reply };
+            Ok(Asked::ToCommit(asked)) => {
+                let request = CommitRequest { asked, reply };
                 let told = ask_commit(rt, &self.shared, &self.slots, self.number, request);
                 self.client.settle(alloc, self.shared.limit(), told)
             }
@@ -407,8 +419,19 @@ impl<B: ClusterName> Session<B> {
     }
 }
 
+impl<B: ClusterName, L: Layer> Session<Layered<B, L>> {
+    /// Says that what each transaction of the layer keeps holds of the serial map of what the session has seen, at
+    /// every version, and does nothing else: so of each map that a read of it was of. It takes no memory, and O(1)
+    /// time.
+    pub fn know_layer(&self)
+        ensures { HoldsOnRun L.holds B.config.resolver_splits self.now.front }
+    {
+        self.client.know_layer();
+    }
+}
+
 // What the session's commit proxy tells of the request, or why its inbox didn't take that.
-fn ask_commit<B: ClusterName, R: Wait>(
+fn ask_commit<B: DatabaseName, R: Wait>(
     rt: &R,
     shared: &Shared<B>,
     slots: &Slots<B>,

@@ -10,10 +10,11 @@ use fdb_book::Book;
 use fdb_keys::{Key, KeyRange, Refusal, is_before};
 use fdb_proxy::Config;
 use fdb_sections::{
-    ClusterName, GrantMessage, Issued, LogAt, LoggedFront, Reported, SequencerAt, ShardAt, both,
+    BatchMessage, DatabaseName, GrantMessage, Issued, LogAt, LoggedFront, Reported, SequencerAt,
+    ShardAt, both,
 };
 use fdb_storage::ShardMap;
-use fdb_txn::{Batch, Move};
+use fdb_txn::Move;
 use inbox::SharedInbox;
 use log::SharedLog;
 use shard::SharedShard;
@@ -30,7 +31,7 @@ pub(crate) mod waiting;
 /// What all threads of a database and its sessions share. Each lock in it is taken with no other one held, but for
 /// those of shards by who closes the database: they are taken in the order of the shards.
 #[derive(Drop)]
-pub(crate) struct Shared<B: ClusterName> {
+pub(crate) struct Shared<B: DatabaseName> {
     pub(crate) alloc: Global,
     book: Book<B>,
     // How many entries the book may have.
@@ -45,7 +46,7 @@ pub(crate) struct Shared<B: ClusterName> {
     ghost limited: { limit ≡ B.config.book },
 }
 
-impl<B: ClusterName> Shared<B> {
+impl<B: DatabaseName> Shared<B> {
     /// The state of a database in which nothing happened. Refused as `BadConfig` where the configuration isn't legal,
     /// and as `NoMemory`.
     pub(crate) fn new(
@@ -110,16 +111,16 @@ impl<B: ClusterName> Shared<B> {
         &self.book
     }
 
-    /// Gives the proxy's batch its entry, as `SequencerAt::issue` does and refuses.
+    /// Gives the batch that the proxy asks for its entry, as `SequencerAt::issue` does and refuses.
     pub(crate) fn issue<R: Wait>(
         &self,
         rt: &R,
         proxy: u32,
-        batch: Batch,
+        asked: BatchMessage<B>,
     ) -> Result<Issued<B>, Refusal> {
         self.sequencer
             .lock(rt)
-            .issue(self.alloc, &self.book, proxy, self.advance, batch)
+            .issue(self.alloc, &self.book, proxy, self.advance, asked)
     }
 
     /// Tells the sequencer that all logs have the front's last entry. Refused as `SequencerAt::report` refuses it.
@@ -249,7 +250,7 @@ pub(crate) fn resolvers_and_shards(config: &Config) -> Result<(u32, u32), Refusa
 }
 
 // The map of the shards, the logs and the shards, which took nothing. Refused only as `NoMemory`.
-fn make_logs_and_shards<B: ClusterName>(
+fn make_logs_and_shards<B: DatabaseName>(
     alloc: Global,
     book: &Book<B>,
     config: &Config,
@@ -268,7 +269,7 @@ fn make_logs_and_shards<B: ClusterName>(
 }
 
 // The logs, each of which took nothing. Refused only as `NoMemory`.
-fn make_logs<B: ClusterName>(
+fn make_logs<B: DatabaseName>(
     alloc: Global,
     book: &Book<B>,
     logs: u32,
@@ -288,7 +289,7 @@ fn make_logs<B: ClusterName>(
 }
 
 // The shards, each of which applied nothing. Refused only as `NoMemory`.
-fn make_shards<B: ClusterName>(
+fn make_shards<B: DatabaseName>(
     alloc: Global,
     book: &Book<B>,
     map: &ShardMap,
@@ -308,7 +309,7 @@ fn make_shards<B: ClusterName>(
 }
 
 // The inboxes of the proxies of both kinds. Refused only as `NoMemory`.
-fn make_all_inboxes<B: ClusterName>(
+fn make_all_inboxes<B: DatabaseName>(
     alloc: Global,
     proxies: u32,
 ) -> Result<

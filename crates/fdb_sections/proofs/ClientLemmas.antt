@@ -2,10 +2,10 @@
 use Rattle.std.proofs.Common.{◌≡◌, ◌∙◌, refl, ap, subst, false, Option, Some, None}
 use Rattle.std.specs.Prelude.{Result, Ok, IfSome}
 use Rattle.fdb_keys.specs.declared.refusal.Refused.{Refused}
-use Rattle.fdb_txn.specs.book.Transactions.{Transaction}
 use Rattle.fdb_proxy.specs.declared.config.Config.{Config}
 use Rattle.fdb_client.specs.declared.program.Transcript.{Transcript}
 use Rattle.fdb_client.specs.Programs.{is_read_only, commit_request_of}
+use Rattle.fdb_sections.specs.Asking.{AskedAtFront}
 use Rattle.fdb_sections.specs.declared.client.Asked.TheVariants as asked
 use Rattle.fdb_sections.specs.Clients.{Client, Asks}
 use Rattle.fdb_sections.specs.Commits.{Back, CommitAnswers, CommitEnds, open_fault}
@@ -15,7 +15,7 @@ use Rattle.fdb_sections.proofs.CommitLemmas.{ended-open}
 
 -- A session that is told what became of what it submitted is answered that of what was open, and has submitted nothing
 -- then.
-pub settled : (B : Type 0) (config : Config) (old middle new : Client) (request : Transaction)
+pub settled : (B : Type 0) (config : Config) (old middle new : Client) (request : AskedAtFront)
     (result : Result ReceiptAtFront (Refused Back))
     → Asks {B = B} config old (Ok (asked.ToCommit request)) middle
     → IfSome middle.submitted (λ transcript. (new.submitted ≡ None)
@@ -25,7 +25,11 @@ settled B config old middle new request result asks ends =
     by_current old.session.current refl asks.0 asks.1
   where
     by_current : (current : Option Transcript) → old.session.current ≡ current → open_fault current ≡ None
-        → IfSome current (λ transcript. (is_read_only transcript ≡ false) × (request ≡ commit_request_of transcript)
+        → IfSome current (λ transcript. (is_read_only transcript ≡ false) × (request ≡ record {
+          front =
+              old.session.front;
+          transaction = commit_request_of transcript;
+        })
         × (middle ≡ record { session = with_current old.session None; submitted = Some transcript }))
         → (new.submitted ≡ None) × CommitAnswers config old.session result new.session
     by_current None is may given = absurd cc

@@ -1,6 +1,6 @@
 -- A sequencer that appends to the book itself.
 use Rattle.std.proofs.Common.{◌≡◌, ◌∙◌, ◌<◌, refl, sym, ap, subst, ℕ, suc, List, [], ◌∷◌, ◌++◌, Option, Some, None}
-use Rattle.std.proofs.Common.{Bool, true, false, inl, inr, Result, Ok, Err, IfOk, OnErr, ⊎_elim}
+use Rattle.std.proofs.Common.{Bool, true, false, inl, inr, Result, Ok, Err, OnErr, ⊎_elim}
 use Rattle.std.specs.Prelude.{◌&&◌, ◌==◌, nat_lt, nat_le, length, if◌then◌else◌}
 use Rattle.std.specs.List.{AllByRecursion, list_all}
 use Rattle.std.proofs.lemmas.Bool.{and_parts, eqb-true, ltb-true}
@@ -83,17 +83,6 @@ one-entry-more resolvers capacity book entry entries none names targets =
     let on = going-on (last_version book) (last_horizon book) entry (may-append capacity book entry none) in
     entries_go_on resolvers 0 book entry entries
     (on.0, (on.1, on.3), targets, both entry.version entry.batch on.2 names, tt)
-
--- a front of such entries stays one, whatever an append to it answers
-pub front-after : (resolvers capacity : ℕ) (old new : List Entry) (entry : Entry)
-    (result : Result (List Entry) (Refused (Option Found))) → Appends capacity old entry result
-    → IfOk result (λ share. new ≡ share) → OnErr result (new ≡ old) → AreEntries resolvers 0 old → IsSealed entry
-    → AllByRecursion (λ (move : Move). move.to < resolvers) entry.moves → AreEntries resolvers 0 new
-front-after resolvers capacity old new entry (Ok longer) answers is same entries names targets =
-    subst (AreEntries resolvers 0) (sym (is ∙ answers.1))
-    (one-entry-more resolvers capacity old entry entries answers.0 names targets)
-front-after resolvers capacity old new entry (Err refused) answers is same entries names targets =
-    subst (AreEntries resolvers 0) (sym same) entries
 
 -- an append that is refused
 pub append-refused : (capacity : ℕ) (book : List Entry) (entry : Entry) (refused : Refused (Option Found))

@@ -1,13 +1,16 @@
 pub mod Exports
 mod AbsentLemmas
+mod AskedProxyLemmas
+mod AskingLemmas
 mod ClientLemmas
 mod CommitLemmas
 mod CommitProxyLemmas
-mod IssueLemmas
 mod GatheringLemmas
+mod IssueLemmas
 mod LentShardLemmas
 mod LogLemmas
 mod ReadingLemmas
+mod ReceiptLaws
 mod ReplyLemmas
 mod ResolverLemmas
 mod SessionLemmas

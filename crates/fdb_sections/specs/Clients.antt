@@ -38,7 +38,7 @@ Asks config old (Ok (asked.Acknowledged receipt)) new =
 Asks config old (Ok (asked.ToCommit request)) new =
     (open_fault old.session.current ≡ None)
     × IfSome old.session.current (λ transcript. (is_read_only transcript ≡ false)
-    × (request ≡ commit_request_of transcript)
+    × (request ≡ record { front = old.session.front; transaction = commit_request_of transcript })
     × (new ≡ record { session = with_current old.session None; submitted = Some transcript }))
 Asks config old (Err why) new =
     (new ≡ old) × ((why ≡ NoMemory) ⊎ (open_fault old.session.current ≡ Some why))

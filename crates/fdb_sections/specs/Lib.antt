@@ -1,4 +1,5 @@
 pub mod Absent
+pub mod Asking
 pub mod Clients
 pub mod CommitMachines
 pub mod CommitProxiesAtFronts
@@ -12,6 +13,7 @@ pub mod Messages
 pub mod Pulls
 pub mod ReadVersionMachines
 pub mod Reading
+pub mod ReceiptLaws
 pub mod Receipts
 pub mod Records
 pub mod Refusals

@@ -17,6 +17,7 @@ ghost use Rattle.fdb_client.specs.declared.program.Op.TheVariants as operation;
 ghost use Rattle.fdb_client.specs.declared.program.Reply.TheVariants as answer;
 ghost use Rattle.fdb_client.specs.declared.program.Transcript.{Transcript as ATranscript};
 ghost use Rattle.fdb_roles.specs.Sessions.{OfOpen};
+ghost use Rattle.fdb_sections.specs.Asking.{HoldsOnRun};
 ghost use Rattle.fdb_sections.specs.Clients.{unless_submitted, Asks};
 ghost use Rattle.fdb_sections.specs.Commits.{CommitEnds, IsToldSo};
 ghost use Rattle.fdb_sections.specs.LentShards.{lent_shards, lending_fault};
@@ -25,8 +26,9 @@ ghost use Rattle.fdb_sections.specs.Sessions.{begin_fault, beginning, learning, 
 ghost use Rattle.fdb_sections.specs.ShardViews.{run_of};
 
 use crate::known_front::KnownFront;
+use crate::messages::commit_message::CommitMessage;
 use crate::messages::reply::CommitReply;
-use crate::name::ClusterName;
+use crate::name::{ClusterName, DatabaseName, Layered};
 use crate::receipt::Receipt;
 use crate::roles::sequencer::GrantMessage;
 use crate::roles::shard::ShardAt;
@@ -38,28 +40,30 @@ use fdb_book::Book;
 use fdb_client::{Snapshot, Transcript};
 use fdb_keys::{Items, Key, KeyRange, RangeSet, Refusal, Refused};
 use fdb_mutations::Mutation;
-use fdb_txn::Sealed;
+use fdb_roles::Layer;
 use std::alloc::Global;
 use std::marker::Model;
 use std::mem;
 
+mod current;
+
 /// What a session comes to that is to commit.
 #[derive(Drop)]
-pub enum Asked<B: ClusterName> {
+pub enum Asked<B: DatabaseName> {
     /// Its transaction wrote nothing, and has its receipt.
     Acknowledged(Receipt<B>),
     /// Its commit proxy is to be sent the request.
-    ToCommit(Sealed),
+    ToCommit(CommitMessage<B>),
 }
 
 /// A session beside what it submitted, as long as it isn't told what became of that.
 #[derive(Drop)]
-pub struct Client<B: ClusterName> {
+pub struct Client<B: DatabaseName> {
     state: SessionState<B>,
     submitted: Option<Submitted>,
 }
 
-impl<B: ClusterName> Model for Client<B> {
+impl<B: DatabaseName> Model for Client<B> {
     ghost use Rattle.std.specs.Option.{option_map};
     ghost use Rattle.fdb_sections.specs.declared.session_state.submitted.Submitted.{Submitted as AsSubmitted};
     ghost use Rattle.fdb_sections.specs.Clients.{Client as Seen, IsClient};
@@ -77,7 +81,7 @@ impl<B: ClusterName> Model for Client<B> {
     }) };
 }
 
-impl<B: ClusterName> Client<B> {
+impl<B: DatabaseName> Client<B> {
     /// The session of the number, which has seen nothing and began nothing. Refused only as `NoMemory`.
     pub fn new(alloc: Global, book: &Book<B>, number: u32) -> Result<Self, Refusal>
         ensures { Answers result None (λ it. it ≡ record {
@@ -313,22 +317,25 @@ impl<B: ClusterName> Client<B> {
             .get_range(snapshot, range, limit, reverse, is_snapshot)
     }
 
-    /// Ends the open transaction. Where it wrote nothing, it has its receipt, at its read version. Else it is
-    /// submitted: it gives the request for the session's commit proxy, and `settle` is to be called with what that
-    /// tells, or with `NoMemory` where the request couldn't be sent.
+    /// Ends the open transaction, which the database has to allow. Where it wrote nothing, it has its receipt, at its
+    /// read version. Else it is submitted: it gives the request for the session's commit proxy, and `settle` is to be
+    /// called with what that tells, or with `NoMemory` where the request couldn't be sent.
     ///
     /// Refused as `NoTransaction` where none is open, as `TransactionTooLarge` where it has more than 10,000,000 bytes,
     /// and as `NoMemory`; then nothing changes. It takes the time of `Txn::request`.
     pub fn commit(&mut self) -> Result<Asked<B>, Refusal>
+        requires { IfSome self.old.session.current B.allows }
         ensures { Asks B.config self.old result self.new }
     {
+        let front = self.state.front().share()?;
         match self.state.submit() {
             Ok(Ended::Acknowledged(receipt)) => {
                 Ok(Asked::Acknowledged(self.state.acknowledge(receipt)))
             }
             Ok(Ended::ToCommit(request, submitted)) => {
+                let asked = CommitMessage::new(front, request);
                 drop(mem::replace(&mut self.submitted, Some(submitted)));
-                Ok(Asked::ToCommit(request))
+                Ok(Asked::ToCommit(asked))
             }
             Err(why) => Err(why),
         }
@@ -365,5 +372,15 @@ impl<B: ClusterName> Client<B> {
                 })
             }
         }
+    }
+}
+
+impl<B: ClusterName, L: Layer> Client<Layered<B, L>> {
+    /// Says that what each transaction of the layer keeps holds of the serial map of what the session has seen, at
+    /// every version, and does nothing else. It takes no memory, and O(1) time.
+    pub fn know_layer(&self)
+        ensures { HoldsOnRun L.holds B.config.resolver_splits self.now.session.front }
+    {
+        self.state.front().know_layer();
     }
 }

@@ -6,36 +6,42 @@ ghost use Rattle.fdb_txn.specs.declared.entry.Move.{Move as AMove};
 ghost use Rattle.fdb_txn.specs.book.Book.{last_version};
 ghost use Rattle.fdb_txn.specs.book.History.{AreEntries, HorizonsRise, IsBook, IsSealed};
 ghost use Rattle.fdb_book.specs.Fronts.{IsPrefix};
+ghost use Rattle.fdb_roles.specs.Layers.{IsBookOf};
+ghost use Rattle.fdb_sections.specs.Asking.{AreAsked, HoldsOnRun};
 ghost use Rattle.fdb_sections.specs.Issuing.{AppendsToFront};
 ghost use Rattle.fdb_sections.specs.Turns.{front_fault, HasOneMore};
 
-use crate::name::ClusterName;
+use crate::name::{ClusterName, DatabaseName, Layered};
 use fdb_book::{Book, Front, agree, append_and_share, empty};
 use fdb_keys::Refusal;
+use fdb_roles::{Layer, a_book_keeps_what_each_transaction_keeps};
 use fdb_txn::Entry;
 use std::alloc::Global;
 use std::marker::Model;
 
-/// A front of which it is known that its entries are the database's: their transactions are sealed, and their moves go
-/// to resolvers that the database has. It is all that is known of the book where a lock is taken or a message received.
+/// A front of which it is known that its entries are the database's: their transactions are sealed, each of them was
+/// asked for by a transcript that the database allows and that was answered as on the run, and their moves go to
+/// resolvers that the database has. It is all that is known of the book where a lock is taken or a message received.
 #[derive(Drop)]
-pub struct KnownFront<B: ClusterName> {
+pub struct KnownFront<B: DatabaseName> {
     front: Front<B>,
 }
 
-impl<B: ClusterName> Model for KnownFront<B> {
+impl<B: DatabaseName> Model for KnownFront<B> {
     ghost use Rattle.std.specs.Prelude.{List, suc, length};
     ghost use Rattle.fdb_txn.specs.declared.entry.Entry.{Entry as AnEntry};
     ghost use Rattle.fdb_txn.specs.book.History.{AreEntries};
+    ghost use Rattle.fdb_sections.specs.Asking.{EachAsked};
 
     ghost Value = { List AnEntry };
 
     ghost view = { λ known. known.front };
 
-    ghost invariant = { λ known. AreEntries (suc (length B.config.resolver_splits)) 0 known.front };
+    ghost invariant = { λ known. AreEntries (suc (length B.config.resolver_splits)) 0 known.front
+        × ∥ EachAsked B.allows B.config.resolver_splits known.front ∥₁ };
 }
 
-impl<B: ClusterName> KnownFront<B> {
+impl<B: DatabaseName> KnownFront<B> {
     /// The front of no entries. Refused only as `NoMemory`.
     pub(crate) fn empty(alloc: Global, book: &Book<B>) -> Result<Self, Refusal>
         ensures { Answers result None (λ front. front ≡ []) }
@@ -94,24 +100,31 @@ impl<B: ClusterName> KnownFront<B> {
     }
 
     /// Appends an entry to the book behind the front, which has it last from then on, and gives a share of the longer
-    /// front to hand on. Refused as `Chain` where the entry doesn't go on from the front or has a transaction that
-    /// didn't read below it, as `Repeated` where an id stands in the front or earlier in the entry, as `BookFull`, as
-    /// `NoMemory`, and as `Taken` where another entry stands in the book; then the front is as it was. It takes O(b log
-    /// s) for b transactions of the entry and s sessions, at a front that is no share of another.
+    /// front to hand on. Its transactions are asked for at another front of the book. Refused as `Chain` where the
+    /// entry doesn't go on from the front or has a transaction that didn't read below it, as `Repeated` where an id
+    /// stands in the front or earlier in the entry, as `BookFull`, as `NoMemory`, and as `Taken` where another entry
+    /// stands in the book; then the front is as it was. It takes O(b log s) for b transactions of the entry and s
+    /// sessions, at a front that is no share of another.
     pub(crate) fn append(
         &mut self,
         alloc: Global,
         book: &Book<B>,
         entry: Entry,
+        asked: &Self,
     ) -> Result<Self, Refusal>
-        requires { AllByRecursion (λ (move : AMove). move.to < suc (length B.config.resolver_splits)) entry.moves }
+        requires moves { AllByRecursion (λ (move : AMove). move.to < suc (length B.config.resolver_splits))
+            entry.moves }
+        requires asked { ∥ AreAsked B.allows B.config.resolver_splits asked.now entry.batch ∥₁ }
         ensures answers { AppendsToFront (length B.cells) self.old entry result }
         ensures longer { IfOk result (λ share. self.new ≡ share) }
         ensures refused { OnErr result (self.new ≡ self.old) }
     {
         know_sealed(&entry);
         match append_and_share(alloc, book, &mut self.front, entry) {
-            Ok(share) => Ok(KnownFront { front: share }),
+            Ok(share) => {
+                let _order = agree(&asked.front, &share);
+                Ok(KnownFront { front: share })
+            }
             Err(refused) => Err(refused.why),
         }
     }
@@ -121,6 +134,14 @@ impl<B: ClusterName> KnownFront<B> {
         ensures { AreEntries (suc (length B.config.resolver_splits)) 0 self.now }
     {
         let _front = &self.front;
+    }
+
+    /// They are a book of transactions that the database allows, each answered as on the run. It does nothing but say
+    /// so.
+    pub fn know_allowed(&self)
+        ensures { ∥ IsBookOf B.allows B.config.resolver_splits self.now ∥₁ }
+    {
+        let _count = self.front.len();
     }
 
     /// Their horizons never fall. It does nothing but say so.
@@ -171,6 +192,17 @@ impl<B: ClusterName> KnownFront<B> {
             return Err(Refusal::NotYet(self.version()));
         }
         Ok(())
+    }
+}
+
+impl<B: ClusterName, L: Layer> KnownFront<Layered<B, L>> {
+    /// What each transaction of the layer keeps holds of the serial map of the front at every version. It does nothing
+    /// but say so.
+    pub fn know_layer(&self)
+        ensures { HoldsOnRun L.holds B.config.resolver_splits self.now }
+    {
+        a_book_keeps_what_each_transaction_keeps::<L>();
+        self.know_allowed();
     }
 }
 

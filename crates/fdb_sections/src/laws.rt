@@ -1,6 +1,7 @@
 //! What sessions come to and are told, for the reader of their definitions.
 ghost use Rattle.fdb_sections.specs.Examples.{WorkedConflicts, WorkedEndings, WorkedFullBooks, WorkedPlaces};
 ghost use Rattle.fdb_sections.specs.Examples.{WorkedReasons, WorkedRefusals};
+ghost use Rattle.fdb_sections.specs.ReceiptLaws.{ReceiptsTellTheMap};
 ghost use Rattle.fdb_sections.specs.Examples.{WorkedSessions, WorkedTurnedDown, WorkedUnreadable, WorkedUntaken};
 
 /// What a session comes to that begins and learns, which transactions are turned down, why a session is refused,
@@ -17,4 +18,11 @@ pub fn worked_examples()
     ensures endings { WorkedEndings }
     ensures unreadable { WorkedUnreadable }
     ensures refusals { WorkedRefusals }
+{}
+
+/// A receipt of a transaction that stands in an entry tells of the run: its reads were answered on the serial map right
+/// before its place, the map right after it is what its mutations, with their stamps, leave of that one, and who only
+/// set a key finds the value there.
+pub fn receipts_tell_the_map()
+    ensures { ReceiptsTellTheMap }
 {}

@@ -2,26 +2,27 @@ ghost use Rattle.std.specs.Prelude.{◌≡◌, ◌≤◌, suc, length};
 ghost use Rattle.fdb_txn.specs.book.Book.{last_version};
 ghost use Rattle.fdb_roles.specs.Spots.{spot_version};
 ghost use Rattle.fdb_txn.specs.book.History.{IsBook, AreEntries};
+ghost use Rattle.fdb_sections.specs.Asking.{HoldsOnRun};
 ghost use Rattle.fdb_sections.specs.Receipts.{IsReceipt};
 
 use crate::known_front::KnownFront;
-use crate::name::ClusterName;
+use crate::name::{ClusterName, DatabaseName, Layered};
 use fdb_book::Front;
 use fdb_client::Transcript;
-use fdb_roles::Placed;
+use fdb_roles::{Layer, Placed};
 use fdb_txn::Spot;
 use std::marker::Model;
 
 /// What a session gets for a commit: where the transaction stands in the book, what it did and was answered, and a
 /// front of the book that shows it there.
 #[derive(Drop)]
-pub struct Receipt<B: ClusterName> {
+pub struct Receipt<B: DatabaseName> {
     front: KnownFront<B>,
     spot: Spot,
     transcript: Transcript,
 }
 
-impl<B: ClusterName> Model for Receipt<B> {
+impl<B: DatabaseName> Model for Receipt<B> {
     ghost use Rattle.fdb_sections.specs.Receipts.{ReceiptAtFront, IsReceipt};
 
     ghost Value = { ReceiptAtFront };
@@ -39,7 +40,7 @@ impl<B: ClusterName> Model for Receipt<B> {
     }) };
 }
 
-impl<B: ClusterName> Receipt<B> {
+impl<B: DatabaseName> Receipt<B> {
     /// The receipt of a transaction that stands at the spot. It takes no memory.
     pub(crate) fn new(front: KnownFront<B>, spot: Spot, transcript: Transcript) -> Self
         requires { IsReceipt B.config.resolver_splits
@@ -108,5 +109,15 @@ impl<B: ClusterName> Receipt<B> {
             transcript,
         } = self;
         Placed { spot, transcript }
+    }
+}
+
+impl<B: ClusterName, L: Layer> Receipt<Layered<B, L>> {
+    /// Says that what each transaction of the layer keeps holds of the serial map of what the session had seen, at
+    /// every version, and does nothing else. It takes no memory, and O(1) time.
+    pub fn know_layer(&self)
+        ensures { HoldsOnRun L.holds B.config.resolver_splits self.now.front }
+    {
+        self.front.know_layer();
     }
 }

@@ -3,13 +3,14 @@ ghost use Rattle.fdb_keys.specs.Answers.{Answers};
 ghost use Rattle.fdb_mutations.specs.Pairs.{pairs_in};
 ghost use Rattle.fdb_txn.specs.book.Book.{last_version};
 ghost use Rattle.fdb_txn.specs.book.History.{IsBook, AreEntries};
+ghost use Rattle.fdb_sections.specs.Asking.{HoldsOnRun};
 ghost use Rattle.fdb_sections.specs.LentShards.{lent_shards, lending_fault};
 ghost use Rattle.fdb_sections.specs.Reading.{RefusedBy};
 ghost use Rattle.fdb_sections.specs.Records.{every_key, is_end_of_keys, is_every_key, record_fault};
 ghost use Rattle.fdb_sections.specs.ShardViews.{run_of};
 
 use crate::known_front::KnownFront;
-use crate::name::ClusterName;
+use crate::name::{ClusterName, DatabaseName, Layered};
 use crate::roles::sequencer::GrantMessage;
 use crate::roles::shard::ShardAt;
 use crate::roles::shard::lent_shards::LentShards;
@@ -18,6 +19,7 @@ use bytes::Bytes;
 use fdb_book::Front;
 use fdb_client::Snapshot;
 use fdb_keys::{Items, Key, KeyRange, Refusal};
+use fdb_roles::Layer;
 use std::alloc::Global;
 use std::marker::Model;
 
@@ -48,13 +50,13 @@ fn is_every_key(range: &KeyRange) -> bool
 
 /// What a database holds at a version: a front of its book that reaches the version, and all its pairs there.
 #[derive(Drop)]
-pub struct Record<B: ClusterName> {
+pub struct Record<B: DatabaseName> {
     front: KnownFront<B>,
     committed: u64,
     pairs: Items<(Key, Bytes)>,
 }
 
-impl<B: ClusterName> Model for Record<B> {
+impl<B: DatabaseName> Model for Record<B> {
     ghost use Rattle.fdb_sections.specs.Records.{RecordAtFront, IsRecord};
 
     ghost Value = { RecordAtFront };
@@ -65,7 +67,7 @@ impl<B: ClusterName> Model for Record<B> {
         (record { front = it.front; committed = it.committed; pairs = it.pairs }) };
 }
 
-impl<B: ClusterName> Record<B> {
+impl<B: DatabaseName> Record<B> {
     /// What the shards have of every key at the version that was granted. They are all shards, in the order of their
     /// ranges. Refused as `Unknown` and `KeyOutsideLegalRange` where they don't hold every key, one after another, as
     /// `Failed` where memory ran out in one, as `TransactionTooOld` and `FutureVersion` where one doesn't serve the
@@ -136,5 +138,15 @@ impl<B: ClusterName> Record<B> {
         ensures serial { result.now ≡ pairs_in (run_of B.config self.now.committed self.now.front) every_key false }
     {
         self.pairs.as_slice()
+    }
+}
+
+impl<B: ClusterName, L: Layer> Record<Layered<B, L>> {
+    /// Says that what each transaction of the layer keeps holds of the serial map of the front, at every version, and
+    /// does nothing else. It takes no memory, and O(1) time.
+    pub fn know_layer(&self)
+        ensures { HoldsOnRun L.holds B.config.resolver_splits self.now.front }
+    {
+        self.front.know_layer();
     }
 }

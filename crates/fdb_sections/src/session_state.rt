@@ -21,7 +21,7 @@ ghost use Rattle.fdb_sections.specs.Sessions.{longer, begin_fault, beginning, le
 ghost use Rattle.fdb_roles.specs.Sessions.{OfOpen};
 
 use crate::known_front::KnownFront;
-use crate::name::ClusterName;
+use crate::name::DatabaseName;
 use crate::receipt::Receipt;
 use crate::roles::sequencer::GrantMessage;
 use bytes::Bytes;
@@ -35,6 +35,7 @@ use std::marker::Model;
 use std::mem;
 
 mod absent;
+mod current;
 mod ending;
 mod reading;
 pub(crate) mod settling;
@@ -63,7 +64,7 @@ fn range_of<S: Snapshot>(
 }
 
 // The longer of two fronts, once more. Refused only as `NoMemory`.
-fn share_longer<B: ClusterName>(
+fn share_longer<B: DatabaseName>(
     own: &KnownFront<B>,
     theirs: &KnownFront<B>,
 ) -> Result<KnownFront<B>, Refusal>
@@ -85,7 +86,7 @@ fn share_longer<B: ClusterName>(
 /// What a session owns: what it has seen of the book, the greatest version that it knows of a receipt, and its open
 /// transaction.
 #[derive(Drop)]
-pub struct SessionState<B: ClusterName> {
+pub struct SessionState<B: DatabaseName> {
     number: u32,
     next_number: u64,
     front: KnownFront<B>,
@@ -93,7 +94,7 @@ pub struct SessionState<B: ClusterName> {
     current: Option<Txn>,
 }
 
-impl<B: ClusterName> Model for SessionState<B> {
+impl<B: DatabaseName> Model for SessionState<B> {
     ghost use Rattle.fdb_sections.specs.Sessions.{Session, IsSession};
 
     ghost Value = { Session };
@@ -115,7 +116,7 @@ impl<B: ClusterName> Model for SessionState<B> {
     }) };
 }
 
-impl<B: ClusterName> SessionState<B> {
+impl<B: DatabaseName> SessionState<B> {
     /// The session of the number, which has seen nothing and began nothing. Refused only as `NoMemory`.
     pub fn new(alloc: Global, book: &Book<B>, number: u32) -> Result<Self, Refusal>
         ensures { Answers result None (λ it. it

@@ -6,10 +6,10 @@ use bytes::Bytes;
 use fdb_keys::{Key, KeyRange, Refusal, Refused};
 use fdb_mutations::{Mutation, STAMP_SIZE};
 use fdb_sections::{
-    Asked, Client, ClusterName, CommitReply, LogState, Next, PullMachine, PullNext, ShardAt,
-    ShardState,
+    Asked, Client, ClusterName, CommitMessage, CommitReply, DatabaseName, LogState, Next, Open,
+    PullMachine, PullNext, ShardAt, ShardState,
 };
-use fdb_txn::{Move, Sealed, WINDOW};
+use fdb_txn::{Move, WINDOW};
 use std::alloc::{AllocError, Global};
 
 // A small window has the versions of so many entries at most.
@@ -23,7 +23,7 @@ fn set_to(alloc: Global, key: &Key, number: u64) -> Result<Mutation, Refusal> {
 }
 
 // The client's open transaction sets the key to the number.
-fn write_number<B: ClusterName>(
+fn write_number<B: DatabaseName>(
     client: &mut Client<B>,
     alloc: Global,
     key: &Key,
@@ -37,7 +37,7 @@ fn write_number<B: ClusterName>(
 
 // The client's open transaction sets the key to the stamp of its commit, and reads it. Answers whether that read is
 // refused, since the stamp isn't known yet.
-fn write_stamp<B: ClusterName>(
+fn write_stamp<B: DatabaseName>(
     client: &mut Client<B>,
     alloc: Global,
     key: &Key,
@@ -57,7 +57,7 @@ fn write_stamp<B: ClusterName>(
 }
 
 // The client's open transaction reads the key at its shard, which has come to its read version.
-fn read_key<B: ClusterName>(
+fn read_key<B: DatabaseName>(
     client: &mut Client<B>,
     shard: &ShardState<B>,
     version: u64,
@@ -70,7 +70,7 @@ fn read_key<B: ClusterName>(
 
 // The client's open transaction reads some pairs of the range at the shards from that number on, which have come to its
 // read version.
-fn read_range<B: ClusterName>(
+fn read_range<B: DatabaseName>(
     client: &mut Client<B>,
     alloc: Global,
     shards: &[ShardState<B>],
@@ -88,7 +88,7 @@ fn read_range<B: ClusterName>(
 }
 
 // Whether a reader at the version waits on for one of the shards from that number on.
-fn are_behind<B: ClusterName>(shards: &[ShardState<B>], first: usize, version: u64) -> bool {
+fn are_behind<B: DatabaseName>(shards: &[ShardState<B>], first: usize, version: u64) -> bool {
     shards
         .iter()
         .skip(first)
@@ -96,7 +96,7 @@ fn are_behind<B: ClusterName>(shards: &[ShardState<B>], first: usize, version: u
 }
 
 // A shard's pull does what it wants next, if it can, until the shard ends. Answers whether anything changed.
-fn go_on<B: ClusterName>(
+fn go_on<B: DatabaseName>(
     pull: &mut PullMachine<B>,
     log: &mut LogState<B>,
     shard: &mut ShardState<B>,
@@ -121,7 +121,7 @@ fn go_on<B: ClusterName>(
 }
 
 // The log that the draw is for takes nothing any more.
-fn fail_log<B: ClusterName>(logs: &mut Vec<LogState<B>>, drawn: usize) {
+fn fail_log<B: DatabaseName>(logs: &mut Vec<LogState<B>>, drawn: usize) {
     let count = logs.len();
     if count == 0 {
         return;
@@ -132,7 +132,7 @@ fn fail_log<B: ClusterName>(logs: &mut Vec<LogState<B>>, drawn: usize) {
 }
 
 // The shard that the draw is for pulls nothing any more. Answers whether there is one.
-fn fail_shard<B: ClusterName>(shards: &mut Vec<ShardState<B>>, drawn: usize) -> bool {
+fn fail_shard<B: DatabaseName>(shards: &mut Vec<ShardState<B>>, drawn: usize) -> bool {
     let count = shards.len();
     if count == 0 {
         return false;
@@ -146,7 +146,7 @@ fn fail_shard<B: ClusterName>(shards: &mut Vec<ShardState<B>>, drawn: usize) -> 
     }
 }
 
-impl<B: ClusterName> Sim<B> {
+impl<B: ClusterName> Sim<Open<B>> {
     /// Draws an act, and does it. It fails only where memory runs out.
     pub(crate) fn act(&mut self) -> Result<(), AllocError> {
         match self.draw(16) {
@@ -423,27 +423,27 @@ impl<B: ClusterName> Sim<B> {
         };
         match player.client.commit() {
             Ok(Asked::Acknowledged(receipt)) => self.note_receipt(number, receipt),
-            Ok(Asked::ToCommit(sealed)) => self.submit(number, sealed),
+            Ok(Asked::ToCommit(asked)) => self.submit(number, asked),
             Err(why) => self.note_refused(number, Refused { why, back: None }),
         }
     }
 
     // Its commit proxy takes the request, or refuses it. Now and then no proxy takes it, as if memory had run out.
-    fn submit(&mut self, number: u32, sealed: Sealed) {
+    fn submit(&mut self, number: u32, asked: CommitMessage<Open<B>>) {
         let is_lost = self.draw(32) == 0;
         let count = self.roles.commits.len();
         if count == 0 || self.is_closed {
-            drop(sealed);
+            drop(asked);
             return self.settle(number, CommitReply::Refused(Refusal::Closed));
         }
         if is_lost {
-            drop(sealed);
+            drop(asked);
             return self.lose_request(number);
         }
         let Some(proxy) = self.roles.commits.get_mut(number as usize % count) else {
-            return drop(sealed);
+            return drop(asked);
         };
-        match proxy.submit(sealed, number) {
+        match proxy.submit(asked, number) {
             Ok(()) => self.wish(number, Wish::Outcome),
             Err(refused) => self.settle(number, CommitReply::Refused(refused.why)),
         }
@@ -499,7 +499,7 @@ impl<B: ClusterName> Sim<B> {
         };
         Tally::add(&mut self.told.tally.acts);
         match proxy.seal() {
-            Ok(batch) => self.pools.batches.put(number, batch),
+            Ok(asked) => self.pools.batches.put(number, asked),
             Err(_why) => {
                 self.fail(number);
                 Ok(())

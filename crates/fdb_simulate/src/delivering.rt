@@ -4,8 +4,10 @@ use crate::sim::{Sim, count_of};
 use crate::tally::Tally;
 use fdb_client::Transcript;
 use fdb_keys::{RangeSet, Refusal, Refused};
-use fdb_sections::{ClusterName, CommitReply, GrantMessage, GrantReply, Receipt, SentPart};
-use fdb_txn::{Batch, Spot, TxnId};
+use fdb_sections::{
+    BatchMessage, ClusterName, CommitReply, GrantMessage, GrantReply, Open, Receipt, SentPart,
+};
+use fdb_txn::{Spot, TxnId};
 use std::alloc::AllocError;
 
 /// The id as one number.
@@ -21,7 +23,7 @@ fn version_of(spot: Spot) -> u64 {
     }
 }
 
-impl<B: ClusterName> Sim<B> {
+impl<B: ClusterName> Sim<Open<B>> {
     /// Draws a kind of message, and delivers one of them, if there is any. It fails only where memory runs out.
     pub(crate) fn deliver(&mut self) -> Result<(), AllocError> {
         let kind = self.draw(10);
@@ -73,11 +75,11 @@ impl<B: ClusterName> Sim<B> {
         self.issue(number, sent.message)
     }
 
-    fn issue(&mut self, number: u32, batch: Batch) -> Result<(), AllocError> {
+    fn issue(&mut self, number: u32, asked: BatchMessage<Open<B>>) -> Result<(), AllocError> {
         let issued = self
             .roles
             .sequencer
-            .issue(self.alloc, &self.cells.book, number, self.advance, batch);
+            .issue(self.alloc, &self.cells.book, number, self.advance, asked);
         match issued {
             Ok(issued) => self.pools.issued.put(number, issued),
             Err(why) => {
@@ -268,7 +270,7 @@ impl<B: ClusterName> Sim<B> {
     }
 
     // It begins, and reads first, or only writes.
-    fn begin(&mut self, number: u32, granted: GrantMessage<B>) {
+    fn begin(&mut self, number: u32, granted: GrantMessage<Open<B>>) {
         let reads = self.draw(4) > 0;
         let Some(player) = self.players.get_mut(number as usize) else {
             return drop(granted);
@@ -301,7 +303,7 @@ impl<B: ClusterName> Sim<B> {
     }
 
     /// A client's transaction ends by what it is told.
-    pub(crate) fn settle(&mut self, number: u32, told: CommitReply<B>) {
+    pub(crate) fn settle(&mut self, number: u32, told: CommitReply<Open<B>>) {
         let Some(player) = self.players.get_mut(number as usize) else {
             return drop(told);
         };
@@ -312,7 +314,7 @@ impl<B: ClusterName> Sim<B> {
     }
 
     /// A client's transaction is acknowledged, of which another client may learn.
-    pub(crate) fn note_receipt(&mut self, number: u32, receipt: Receipt<B>) {
+    pub(crate) fn note_receipt(&mut self, number: u32, receipt: Receipt<Open<B>>) {
         self.tell_another(&receipt);
         let version = version_of(receipt.spot());
         self.told.greatest = self.told.greatest.max(version);
@@ -323,7 +325,7 @@ impl<B: ClusterName> Sim<B> {
     }
 
     // A client that is drawn learns of the receipt, now and then, unless it waits for an answer.
-    fn tell_another(&mut self, receipt: &Receipt<B>) {
+    fn tell_another(&mut self, receipt: &Receipt<Open<B>>) {
         let is_due = self.draw(8) == 0;
         let count = count_of(self.players.len());
         let drawn = self.draw(count);

@@ -1,6 +1,6 @@
 // What was begun is played to its end: everybody acts, and everything that is on its way comes, until nothing changes.
 use crate::sim::{Sim, count_of};
-use fdb_sections::{ClusterName, Next};
+use fdb_sections::{ClusterName, Next, Open};
 use std::alloc::AllocError;
 
 // How many rounds there are at most. What is left then waits.
@@ -10,7 +10,7 @@ const ROUNDS: u32 = 1_000_000;
 // a round a message of each kind is drawn, and of many that wait for others only one may be one whose turn it is.
 const IDLE_ROUNDS: usize = 64;
 
-impl<B: ClusterName> Sim<B> {
+impl<B: ClusterName> Sim<Open<B>> {
     /// Goes round until nothing changes any more. It fails only where memory runs out.
     pub(crate) fn drain(&mut self) -> Result<(), AllocError> {
         let mut idle: usize = 0;

@@ -6,7 +6,7 @@ use crate::tally::Tally;
 use fdb_check::{CheckFault, JudgedBook};
 use fdb_keys::Refusal;
 use fdb_proxy::Config;
-use fdb_sections::{ClusterName, GrantMessage, Record, ShardAt};
+use fdb_sections::{ClusterName, DatabaseName, GrantMessage, Open, Record, ShardAt};
 use fdb_txn::Entry;
 use std::alloc::Global;
 
@@ -25,7 +25,7 @@ fn count_found(entries: &[Entry], ids: &[u128]) -> u64 {
 }
 
 // The entries of the front that was granted. Refused only as `NoMemory`.
-fn entries_of<B: ClusterName>(granted: GrantMessage<B>) -> Result<Vec<Entry>, Refusal> {
+fn entries_of<B: DatabaseName>(granted: GrantMessage<B>) -> Result<Vec<Entry>, Refusal> {
     let front = granted.into_front();
     let entries = front.front().entries();
     drop(front);
@@ -33,7 +33,7 @@ fn entries_of<B: ClusterName>(granted: GrantMessage<B>) -> Result<Vec<Entry>, Re
 }
 
 // Whether the shards gave a record. Refused only as `NoMemory`.
-fn is_given<B: ClusterName>(record: Result<Record<B>, Refusal>) -> Result<bool, Refusal> {
+fn is_given<B: DatabaseName>(record: Result<Record<B>, Refusal>) -> Result<bool, Refusal> {
     match record {
         Ok(record) => {
             drop(record);
@@ -57,7 +57,7 @@ fn count_unexplained(plan: &Plan, tally: &Tally, is_full: bool) -> u64 {
     tally.unknown.saturating_add(refused)
 }
 
-impl<B: ClusterName> Sim<B> {
+impl<B: ClusterName> Sim<Open<B>> {
     /// What came of the run, with its receipts and refusals compared with the book. It fails only where memory runs
     /// out.
     pub(crate) fn judge(&mut self, config: &Config, plan: &Plan) -> Result<Tally, Refusal> {
@@ -100,8 +100,8 @@ impl<B: ClusterName> Sim<B> {
     }
 
     // What the shards have at the version that was granted.
-    fn record_at(&self, granted: &GrantMessage<B>) -> Result<Record<B>, Refusal> {
-        let mut shards: Vec<&ShardAt<B>> = Vec::new(self.alloc);
+    fn record_at(&self, granted: &GrantMessage<Open<B>>) -> Result<Record<Open<B>>, Refusal> {
+        let mut shards: Vec<&ShardAt<Open<B>>> = Vec::new(self.alloc);
         for shard in &self.roles.shards {
             shards.push(&shard.at)?;
         }

@@ -1,5 +1,5 @@
 // A client, and what it does next.
-use fdb_sections::{Client, ClusterName};
+use fdb_sections::{Client, DatabaseName};
 
 /// What a client does next, or waits for.
 #[derive(Clone, Copy)]
@@ -20,14 +20,14 @@ pub(crate) enum Wish {
 
 /// A client beside what it does next.
 #[derive(Drop)]
-pub(crate) struct Player<B: ClusterName> {
+pub(crate) struct Player<B: DatabaseName> {
     pub(crate) client: Client<B>,
     pub(crate) wish: Wish,
     // The greatest version that was acknowledged when it asked for its read version.
     pub(crate) seen: u64,
 }
 
-impl<B: ClusterName> Player<B> {
+impl<B: DatabaseName> Player<B> {
     pub(crate) fn new(client: Client<B>) -> Self {
         Player {
             client,

@@ -7,15 +7,15 @@ use fdb_book::Book;
 use fdb_keys::Refusal;
 use fdb_proxy::Config;
 use fdb_sections::{
-    ClusterName, CommitMachine, CommitProxyAt, LogAt, LogState, PullMachine, ReadVersionMachine,
-    ResolverAt, ResolverMachine, SequencerAt, ShardAt, ShardState, both,
+    CommitMachine, DatabaseName, LogAt, LogState, PullMachine, ReadVersionMachine, ResolverAt,
+    ResolverMachine, SequencerAt, ShardAt, ShardState, both,
 };
 use fdb_storage::ShardMap;
 use std::alloc::Global;
 
 /// All roles. Who waits for a proxy is the number of a client.
 #[derive(Drop)]
-pub(crate) struct Roles<B: ClusterName> {
+pub(crate) struct Roles<B: DatabaseName> {
     pub(crate) sequencer: SequencerAt<B>,
     pub(crate) resolvers: Vec<ResolverMachine<B>>,
     pub(crate) logs: Vec<LogState<B>>,
@@ -26,7 +26,7 @@ pub(crate) struct Roles<B: ClusterName> {
     pub(crate) begins: Vec<ReadVersionMachine<B, u32>>,
 }
 
-impl<B: ClusterName> Roles<B> {
+impl<B: DatabaseName> Roles<B> {
     /// Nothing has happened. Refused as `BadConfig` where the configuration isn't legal, and as `NoMemory`.
     pub(crate) fn new(alloc: Global, book: &Book<B>, config: &Config) -> Result<Self, Refusal>
         requires { config.now ≡ B.config }
@@ -78,7 +78,7 @@ impl<B: ClusterName> Roles<B> {
 }
 
 // The resolvers. Refused only as `NoMemory`.
-fn make_resolvers<B: ClusterName>(
+fn make_resolvers<B: DatabaseName>(
     alloc: Global,
     book: &Book<B>,
     count: u32,
@@ -95,7 +95,7 @@ fn make_resolvers<B: ClusterName>(
 }
 
 // The logs. Refused only as `NoMemory`.
-fn make_logs<B: ClusterName>(
+fn make_logs<B: DatabaseName>(
     alloc: Global,
     book: &Book<B>,
     logs: u32,
@@ -115,7 +115,7 @@ fn make_logs<B: ClusterName>(
 }
 
 // The shards' map, and the shards. Refused only as `NoMemory`.
-fn make_shards<B: ClusterName>(
+fn make_shards<B: DatabaseName>(
     alloc: Global,
     book: &Book<B>,
     config: &Config,
@@ -132,7 +132,7 @@ fn make_shards<B: ClusterName>(
 }
 
 // The shards of the map. Refused only as `NoMemory`.
-fn shards_of<B: ClusterName>(
+fn shards_of<B: DatabaseName>(
     alloc: Global,
     book: &Book<B>,
     map: &ShardMap,
@@ -152,7 +152,7 @@ fn shards_of<B: ClusterName>(
 }
 
 // The shards' pulls. Refused only as `NoMemory`.
-fn make_pulls<B: ClusterName>(alloc: Global, tags: u32) -> Result<Vec<PullMachine<B>>, Refusal>
+fn make_pulls<B: DatabaseName>(alloc: Global, tags: u32) -> Result<Vec<PullMachine<B>>, Refusal>
     ensures { Answers result None (λ _. ⊤) }
 {
     let mut made = Vec::with_capacity(alloc, tags as usize)?;
@@ -163,7 +163,7 @@ fn make_pulls<B: ClusterName>(alloc: Global, tags: u32) -> Result<Vec<PullMachin
 }
 
 // The proxies of both kinds. Refused only as `NoMemory`.
-fn make_proxies<B: ClusterName>(
+fn make_proxies<B: DatabaseName>(
     alloc: Global,
     book: &Book<B>,
     config: &Config,
@@ -179,7 +179,7 @@ fn make_proxies<B: ClusterName>(
 }
 
 // The commit proxies. Refused only as `NoMemory`.
-fn make_commits<B: ClusterName>(
+fn make_commits<B: DatabaseName>(
     alloc: Global,
     book: &Book<B>,
     config: &Config,
@@ -191,14 +191,13 @@ fn make_commits<B: ClusterName>(
 {
     let mut made = Vec::with_capacity(alloc, config.proxies as usize)?;
     for number in 0..config.proxies {
-        let at = CommitProxyAt::new(alloc, book, number, config)?;
-        made.push(CommitMachine::new(alloc, at, resolvers, config.logs))?;
+        made.push(CommitMachine::new(alloc, book, number, config, resolvers)?)?;
     }
     Ok(made)
 }
 
 // The read-version proxies. Refused only as `NoMemory`.
-fn make_begins<B: ClusterName>(
+fn make_begins<B: DatabaseName>(
     alloc: Global,
     count: u32,
 ) -> Result<Vec<ReadVersionMachine<B, u32>>, Refusal>

@@ -12,18 +12,17 @@ use fdb_keys::{Key, Refusal};
 use fdb_proxy::Config;
 use fdb_roles::Placed;
 use fdb_sections::{
-    AckMessage, Client, ClusterName, CommitReply, GrantReply, Issued, LogMessage, LoggedFront,
-    PartMessage, Reported, VerdictMessage, both,
+    AckMessage, BatchMessage, Client, ClusterName, CommitReply, DatabaseName, GrantReply, Issued,
+    LogMessage, LoggedFront, Open, PartMessage, Reported, VerdictMessage, both,
 };
-use fdb_txn::Batch;
 use rand_core::Rng;
 use rand_pcg::Pcg32;
 use std::alloc::{AllocError, Global};
 
 /// What is on its way, each kind by itself.
 #[derive(Drop)]
-pub(crate) struct Pools<B: ClusterName> {
-    pub(crate) batches: Pool<Batch>,
+pub(crate) struct Pools<B: DatabaseName> {
+    pub(crate) batches: Pool<BatchMessage<B>>,
     pub(crate) issued: Pool<Issued<B>>,
     pub(crate) parts: Pool<PartMessage<B>>,
     pub(crate) verdicts: Pool<VerdictMessage<B>>,
@@ -35,7 +34,7 @@ pub(crate) struct Pools<B: ClusterName> {
     pub(crate) outcomes: Pool<CommitReply<B>>,
 }
 
-impl<B: ClusterName> Pools<B> {
+impl<B: DatabaseName> Pools<B> {
     fn new(alloc: Global) -> Self {
         Pools {
             batches: Pool::new(alloc),
@@ -68,7 +67,7 @@ impl<B: ClusterName> Pools<B> {
 
 /// The book's cells, and how many entries the book may have.
 #[derive(Drop)]
-pub(crate) struct Cells<B: ClusterName> {
+pub(crate) struct Cells<B: DatabaseName> {
     pub(crate) book: Book<B>,
     pub(crate) limit: u32,
     ghost limited: { limit ≡ B.config.book },
@@ -89,7 +88,7 @@ pub(crate) struct Told {
 }
 
 #[derive(Drop)]
-pub(crate) struct Sim<B: ClusterName> {
+pub(crate) struct Sim<B: DatabaseName> {
     pub(crate) alloc: Global,
     pub(crate) cells: Cells<B>,
     pub(crate) roles: Roles<B>,
@@ -128,7 +127,7 @@ pub fn simulate<B: ClusterName>(
     if blank.capacity() != config.book as usize {
         return Err(Refusal::BadConfig);
     }
-    let book: Book<B> = Book::open(blank);
+    let book: Book<Open<B>> = Book::open(blank);
     let cells = Cells {
         book,
         limit: config.book,
@@ -172,7 +171,7 @@ pub(crate) fn count_of(len: usize) -> u32 {
 }
 
 // The clients of the first numbers. Refused only as `NoMemory`.
-fn make_players<B: ClusterName>(
+fn make_players<B: DatabaseName>(
     alloc: Global,
     book: &Book<B>,
     count: u32,
@@ -219,7 +218,11 @@ fn start_refusal(why: Refusal) -> Refusal
 }
 
 // Plays the plan to its end, and judges it.
-fn play_out<B: ClusterName>(sim: Sim<B>, config: &Config, plan: &Plan) -> Result<Tally, Refusal>
+fn play_out<B: ClusterName>(
+    sim: Sim<Open<B>>,
+    config: &Config,
+    plan: &Plan,
+) -> Result<Tally, Refusal>
     ensures { IfErr result (λ why. why ≡ NoMemory) }
 {
     let mut sim = sim;
@@ -228,7 +231,7 @@ fn play_out<B: ClusterName>(sim: Sim<B>, config: &Config, plan: &Plan) -> Result
     told
 }
 
-impl<B: ClusterName> Sim<B> {
+impl<B: ClusterName> Sim<Open<B>> {
     // The same, refused only as `NoMemory`.
     fn play_and_judge(&mut self, config: &Config, plan: &Plan) -> Result<Tally, Refusal>
         ensures { IfErr result (λ why. why ≡ NoMemory) }

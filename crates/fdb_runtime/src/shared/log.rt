@@ -1,16 +1,16 @@
 use crate::shared::waiting::give_way;
 use fdb_keys::Refusal;
-use fdb_sections::{AckMessage, ClusterName, LogAt, LogMessage, LogState, PullMachine};
+use fdb_sections::{AckMessage, DatabaseName, LogAt, LogMessage, LogState, PullMachine};
 use std::sync::{Condvar, Mutex, Wait};
 
 /// A log that threads share.
 #[derive(Drop)]
-pub(crate) struct SharedLog<B: ClusterName> {
+pub(crate) struct SharedLog<B: DatabaseName> {
     state: Mutex<LogState<B>>,
     changed: Condvar,
 }
 
-impl<B: ClusterName> SharedLog<B> {
+impl<B: DatabaseName> SharedLog<B> {
     /// The log, with nothing to wait for. It takes no memory.
     pub(crate) fn new(at: LogAt<B>) -> Self {
         SharedLog {

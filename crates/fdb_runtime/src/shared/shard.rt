@@ -3,18 +3,18 @@ ghost use Rattle.std.specs.Sync.Mutex.{mutex_guard_value};
 
 use crate::shared::waiting::give_way;
 use fdb_keys::{KeyRange, Refusal};
-use fdb_sections::{ClusterName, PullMachine, ShardAt, ShardState};
+use fdb_sections::{DatabaseName, PullMachine, ShardAt, ShardState};
 use std::alloc::{AllocError, Global};
 use std::sync::{Condvar, Mutex, MutexGuard, Wait};
 
 /// A shard that threads share.
 #[derive(Drop)]
-pub(crate) struct SharedShard<B: ClusterName> {
+pub(crate) struct SharedShard<B: DatabaseName> {
     state: Mutex<ShardState<B>>,
     changed: Condvar,
 }
 
-impl<B: ClusterName> SharedShard<B> {
+impl<B: DatabaseName> SharedShard<B> {
     /// The shard, with nothing to wait for. It takes no memory.
     pub(crate) fn new(at: ShardAt<B>) -> Self {
         SharedShard {
@@ -84,7 +84,7 @@ impl<B: ClusterName> SharedShard<B> {
 }
 
 /// Lends all of the shards as they are. Refused only as `NoMemory`.
-pub(crate) fn hold_all<'a, B: ClusterName, R: Wait>(
+pub(crate) fn hold_all<'a, B: DatabaseName, R: Wait>(
     rt: &R,
     alloc: Global,
     shards: &'a [SharedShard<B>],
@@ -99,7 +99,7 @@ pub(crate) fn hold_all<'a, B: ClusterName, R: Wait>(
 }
 
 /// The shards whose locks are held. Refused only as `NoMemory`.
-pub(crate) fn lent_of<'a, B: ClusterName>(
+pub(crate) fn lent_of<'a, B: DatabaseName>(
     alloc: Global,
     held: &'a [MutexGuard<'_, ShardState<B>>],
 ) -> Result<Vec<&'a ShardAt<B>>, AllocError> {

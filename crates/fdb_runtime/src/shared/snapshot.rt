@@ -9,14 +9,14 @@ use crate::shared::shard::SharedShard;
 use bytes::Bytes;
 use fdb_client::{Page, Snapshot};
 use fdb_keys::{Key, KeyRange, Refusal};
-use fdb_sections::{ClusterName, Gathering, KnownFront};
+use fdb_sections::{DatabaseName, Gathering, KnownFront};
 use std::alloc::Global;
 use std::sync::Wait;
 
 /// The shards of a database, read at a version that the reader's front reaches: what is answered is that front's serial
 /// map. No lock is held between two pages of a range.
 #[derive(Drop)]
-pub(crate) struct SharedShards<'a, B: ClusterName, R: Wait> {
+pub(crate) struct SharedShards<'a, B: DatabaseName, R: Wait> {
     alloc: Global,
     rt: &'a R,
     shared: &'a Shared<B>,
@@ -25,7 +25,7 @@ pub(crate) struct SharedShards<'a, B: ClusterName, R: Wait> {
     ghost reached: { version ≤ last_version front.now },
 }
 
-impl<'a, B: ClusterName, R: Wait> SharedShards<'a, B, R> {
+impl<'a, B: DatabaseName, R: Wait> SharedShards<'a, B, R> {
     /// It takes no memory, and O(1) time.
     pub(crate) fn new(
         alloc: Global,
@@ -93,7 +93,7 @@ impl<'a, B: ClusterName, R: Wait> SharedShards<'a, B, R> {
 }
 
 // Takes from the shards, one after another, until the page wants no more: from the last one backwards where `reverse`.
-fn take_of_all<B: ClusterName, R: Wait>(
+fn take_of_all<B: DatabaseName, R: Wait>(
     rt: &R,
     shards: &[SharedShard<B>],
     version: u64,
@@ -115,7 +115,7 @@ fn take_of_all<B: ClusterName, R: Wait>(
 
 // Takes from the shard, once it has come to the version. Its lock is held no longer. Refused as `at_version` and as
 // `Gathering::take_from` are.
-fn take_of<B: ClusterName, R: Wait>(
+fn take_of<B: DatabaseName, R: Wait>(
     rt: &R,
     shard: &SharedShard<B>,
     version: u64,
@@ -130,7 +130,7 @@ fn take_of<B: ClusterName, R: Wait>(
 /// A key isn't read of it, but refused as `KeyOutsideLegalRange`. A page of a range waits until each of the shards that
 /// it looks at has come to the version, and holds the lock of one of them at a time, for no more than 257 pairs. What
 /// is refused on the way is answered as `NoMemory`; `why_unread` tells the reason.
-impl<'a, B: ClusterName, R: Wait> Snapshot for SharedShards<'a, B, R> {
+impl<'a, B: DatabaseName, R: Wait> Snapshot for SharedShards<'a, B, R> {
     ghost use Rattle.std.specs.Prelude.{Some, None};
     ghost use Rattle.fdb_keys.specs.declared.refusal.Refusal.TheVariants.{KeyOutsideLegalRange};
     ghost use Rattle.fdb_sections.specs.ShardViews.{run_of};

@@ -9,14 +9,13 @@ use crate::threads::worker::Worker;
 use crossbeam_channel::{Receiver, Sender};
 use fdb_keys::Refusal;
 use fdb_sections::{
-    AckMessage, ClusterName, CommitMachine, CommitProxyAt, CommitReply, GrantMessage, Issued,
-    LogMessage, Next, SentPart, VerdictMessage,
+    AckMessage, CommitMachine, CommitReply, DatabaseName, GrantMessage, Issued, LogMessage, Next,
+    SentPart, VerdictMessage,
 };
-use std::alloc::Global;
 use std::sync::{Arc, Wait};
 
 /// Refuses all of them.
-pub(crate) fn refuse_commits<B: ClusterName, R: Wait>(
+pub(crate) fn refuse_commits<B: DatabaseName, R: Wait>(
     rt: &R,
     asked: Vec<CommitRequest<B>>,
     why: Refusal,
@@ -39,14 +38,14 @@ enum Flow {
 
 /// What a commit proxy's thread has: the proxy, beside the slots of who waits for its answers, and the channels.
 #[derive(Drop)]
-pub(crate) struct CommitWorker<B: ClusterName> {
+pub(crate) struct CommitWorker<B: DatabaseName> {
     number: u32,
     machine: CommitMachine<B, Arc<Slot<CommitReply<B>>>>,
     parts: Vec<Sender<Option<SentPart<B>>>>,
     verdicts: Vec<Receiver<Option<VerdictMessage<B>>>>,
 }
 
-impl<B: ClusterName + Send + Sync + 'static, G: Pass + Send + Sync + 'static> Worker<Gated<B, G>>
+impl<B: DatabaseName + Send + Sync + 'static, G: Pass + Send + Sync + 'static> Worker<Gated<B, G>>
     for CommitWorker<B> {
     // Commits what it is asked to, batch by batch, until the inbox ends, or the proxy fails: then it says so to all
     // others.
@@ -65,20 +64,17 @@ impl<B: ClusterName + Send + Sync + 'static, G: Pass + Send + Sync + 'static> Wo
     }
 }
 
-impl<B: ClusterName> CommitWorker<B> {
+impl<B: DatabaseName> CommitWorker<B> {
     /// Nobody has asked. It takes no memory.
     pub(crate) fn new(
-        alloc: Global,
         number: u32,
-        at: CommitProxyAt<B>,
-        logs: u32,
+        machine: CommitMachine<B, Arc<Slot<CommitReply<B>>>>,
         parts: Vec<Sender<Option<SentPart<B>>>>,
         verdicts: Vec<Receiver<Option<VerdictMessage<B>>>>,
     ) -> Self {
-        let resolvers = u32::try_from(verdicts.len()).unwrap_or(u32::MAX);
         CommitWorker {
             number,
-            machine: CommitMachine::new(alloc, at, resolvers, logs),
+            machine,
             parts,
             verdicts,
         }
@@ -146,8 +142,8 @@ impl<B: ClusterName> CommitWorker<B> {
 
     // Takes a request, or answers why it is refused.
     fn take<R: Wait>(&mut self, rt: &R, request: CommitRequest<B>) {
-        let CommitRequest { sealed, reply } = request;
-        if let Err(refused) = self.machine.submit(sealed, reply) {
+        let CommitRequest { asked, reply } = request;
+        if let Err(refused) = self.machine.submit(asked, reply) {
             refused.back.put(rt, CommitReply::Refused(refused.why));
         }
     }
@@ -178,8 +174,8 @@ impl<B: ClusterName> CommitWorker<B> {
         gate: &G,
         shared: &Shared<B>,
     ) -> Result<(), Refusal> {
-        let batch = self.machine.seal()?;
-        match shared.issue(rt, self.number, batch) {
+        let asked = self.machine.seal()?;
+        match shared.issue(rt, self.number, asked) {
             Ok(issued) => self.issued(gate, issued),
             Err(why) => self.give_up(rt, shared, why),
         }
@@ -291,21 +287,21 @@ impl<B: ClusterName> CommitWorker<B> {
 }
 
 // Tells the resolvers that the proxy failed.
-fn tell_resolvers<B: ClusterName, R: Wait>(rt: &R, parts: &[Sender<Option<SentPart<B>>>]) {
+fn tell_resolvers<B: DatabaseName, R: Wait>(rt: &R, parts: &[Sender<Option<SentPart<B>>>]) {
     for resolver in parts {
         let _ = resolver.send(rt, None);
     }
 }
 
 // No log takes anything any more.
-fn end_logs<B: ClusterName, R: Wait>(rt: &R, shared: &Shared<B>) {
+fn end_logs<B: DatabaseName, R: Wait>(rt: &R, shared: &Shared<B>) {
     for log in shared.logs() {
         log.end(rt, Refusal::Failed);
     }
 }
 
 // Has the message's log take it, in its turn.
-fn push<B: ClusterName, R: Wait>(
+fn push<B: DatabaseName, R: Wait>(
     rt: &R,
     shared: &Shared<B>,
     message: &LogMessage<B>,

@@ -5,17 +5,17 @@ ghost use Rattle.fdb_keys.specs.Answers.{Answers};
 use crate::gate::Pass;
 use crate::shared::Shared;
 use fdb_keys::Refusal;
-use fdb_sections::ClusterName;
+use fdb_sections::DatabaseName;
 use std::sync::Arc;
 
 /// What the threads of a database share, beside the gate that some of them call.
 #[derive(Drop)]
-pub(crate) struct Gated<B: ClusterName, G: Pass> {
+pub(crate) struct Gated<B: DatabaseName, G: Pass> {
     pub(crate) shared: Arc<Shared<B>>,
     pub(crate) gate: Arc<G>,
 }
 
-impl<B: ClusterName, G: Pass> Gated<B, G> {
+impl<B: DatabaseName, G: Pass> Gated<B, G> {
     /// Shares of both, for all threads. Refused only as `NoMemory`.
     pub(crate) fn share(shared: &Arc<Shared<B>>, gate: &Arc<G>) -> Result<Arc<Self>, Refusal>
         ensures { Answers result None (λ _. ⊤) }

@@ -5,12 +5,12 @@ use crate::threads::gated::Gated;
 use crate::threads::request::BeginRequest;
 use crate::threads::worker::Worker;
 use fdb_keys::Refusal;
-use fdb_sections::{ClusterName, GrantReply, ReadVersionMachine};
+use fdb_sections::{DatabaseName, GrantReply, ReadVersionMachine};
 use std::alloc::Global;
 use std::sync::{Arc, Wait};
 
 /// Refuses all of them.
-pub(crate) fn refuse_begins<B: ClusterName, R: Wait>(
+pub(crate) fn refuse_begins<B: DatabaseName, R: Wait>(
     rt: &R,
     asked: Vec<BeginRequest<B>>,
     why: Refusal,
@@ -22,12 +22,12 @@ pub(crate) fn refuse_begins<B: ClusterName, R: Wait>(
 
 /// What a read-version proxy's thread has: the proxy, beside the slots of who waits for its answers.
 #[derive(Drop)]
-pub(crate) struct ReadVersionWorker<B: ClusterName> {
+pub(crate) struct ReadVersionWorker<B: DatabaseName> {
     number: u32,
     machine: ReadVersionMachine<B, Arc<Slot<GrantReply<B>>>>,
 }
 
-impl<B: ClusterName + Send + Sync + 'static, G: Pass + Send + Sync + 'static> Worker<Gated<B, G>>
+impl<B: DatabaseName + Send + Sync + 'static, G: Pass + Send + Sync + 'static> Worker<Gated<B, G>>
     for ReadVersionWorker<B> {
     // Answers who asks for a read version, until the inbox ends.
     fn work<R: Wait>(&mut self, rt: &R, lent: &Gated<B, G>) {
@@ -45,7 +45,7 @@ impl<B: ClusterName + Send + Sync + 'static, G: Pass + Send + Sync + 'static> Wo
     }
 }
 
-impl<B: ClusterName> ReadVersionWorker<B> {
+impl<B: DatabaseName> ReadVersionWorker<B> {
     /// The proxy with the number, which nobody has asked. It takes no memory.
     pub(crate) fn new(alloc: Global, number: u32) -> Self {
         ReadVersionWorker {

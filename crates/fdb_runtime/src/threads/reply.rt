@@ -3,18 +3,18 @@ ghost use Rattle.fdb_keys.specs.Answers.{Answers};
 
 use crate::shared::slot::Slot;
 use fdb_keys::Refusal;
-use fdb_sections::{ClusterName, CommitReply, GrantReply};
+use fdb_sections::{CommitReply, DatabaseName, GrantReply};
 use std::alloc::Global;
 use std::sync::{Arc, Wait};
 
 /// Where a session gets its replies, one slot for each kind.
 #[derive(Drop)]
-pub(crate) struct Slots<B: ClusterName> {
+pub(crate) struct Slots<B: DatabaseName> {
     grants: Arc<Slot<GrantReply<B>>>,
     outcomes: Arc<Slot<CommitReply<B>>>,
 }
 
-impl<B: ClusterName> Slots<B> {
+impl<B: DatabaseName> Slots<B> {
     /// Slots without a reply. Refused only as `NoMemory`.
     pub(crate) fn new(alloc: Global) -> Result<Self, Refusal>
         ensures { Answers result None (λ _. ⊤) }

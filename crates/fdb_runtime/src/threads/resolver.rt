@@ -7,13 +7,13 @@ use crate::threads::gated::Gated;
 use crate::threads::worker::Worker;
 use crossbeam_channel::{Receiver, Sender};
 use fdb_keys::Refusal;
-use fdb_sections::{ClusterName, ResolverAt, ResolverMachine, SentPart, VerdictMessage};
+use fdb_sections::{DatabaseName, ResolverAt, ResolverMachine, SentPart, VerdictMessage};
 use std::alloc::Global;
 use std::sync::Wait;
 
 /// What a resolver's thread has: the resolver, and the channels.
 #[derive(Drop)]
-pub(crate) struct ResolverWorker<B: ClusterName> {
+pub(crate) struct ResolverWorker<B: DatabaseName> {
     number: u32,
     machine: ResolverMachine<B>,
     // A `None` says that a commit proxy failed, whose entry never comes.
@@ -22,7 +22,7 @@ pub(crate) struct ResolverWorker<B: ClusterName> {
     verdicts: Vec<Sender<Option<VerdictMessage<B>>>>,
 }
 
-impl<B: ClusterName + Send + Sync + 'static, G: Pass + Send + Sync + 'static> Worker<Gated<B, G>>
+impl<B: DatabaseName + Send + Sync + 'static, G: Pass + Send + Sync + 'static> Worker<Gated<B, G>>
     for ResolverWorker<B> {
     // Answers parts until all commit proxies have ended, one of them has failed, or the resolver itself fails.
     fn work<R: Wait>(&mut self, rt: &R, lent: &Gated<B, G>) {
@@ -37,7 +37,7 @@ impl<B: ClusterName + Send + Sync + 'static, G: Pass + Send + Sync + 'static> Wo
     }
 }
 
-impl<B: ClusterName> ResolverWorker<B> {
+impl<B: DatabaseName> ResolverWorker<B> {
     /// The resolver with the number, which no commit proxy is tied to yet. It takes no memory.
     pub(crate) fn new(
         alloc: Global,

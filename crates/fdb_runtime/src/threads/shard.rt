@@ -3,7 +3,7 @@ use crate::shared::Shared;
 use crate::threads::gated::Gated;
 use crate::threads::worker::Worker;
 use fdb_keys::Refusal;
-use fdb_sections::{ClusterName, PullMachine, PullNext};
+use fdb_sections::{DatabaseName, PullMachine, PullNext};
 use std::sync::Wait;
 
 /// The thread of the shard with the tag, which stands among what all threads share.
@@ -12,14 +12,14 @@ pub(crate) struct ShardWorker {
     pub(crate) tag: u32,
 }
 
-impl<B: ClusterName, G: Pass> Worker<Gated<B, G>> for ShardWorker {
+impl<B: DatabaseName, G: Pass> Worker<Gated<B, G>> for ShardWorker {
     // Pulls what the log keeps for the shard until the log has ended and has no more, or the shard fails.
     fn work<R: Wait>(&mut self, rt: &R, lent: &Gated<B, G>) {
         run_shard(rt, &*lent.shared, self.tag);
     }
 }
 
-fn run_shard<B: ClusterName, R: Wait>(rt: &R, shared: &Shared<B>, tag: u32) {
+fn run_shard<B: DatabaseName, R: Wait>(rt: &R, shared: &Shared<B>, tag: u32) {
     let Some(shard) = shared.shard(tag) else {
         return;
     };

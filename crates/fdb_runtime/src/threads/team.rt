@@ -10,7 +10,7 @@ use crate::threads::read_version_proxy::refuse_begins;
 use crate::threads::worker::{join_all, start_all};
 use crate::threads::workers::Workers;
 use fdb_keys::Refusal;
-use fdb_sections::ClusterName;
+use fdb_sections::DatabaseName;
 use std::alloc::Global;
 use std::sync::{Arc, Wait};
 use std::thread::{JoinHandle, Threads};
@@ -37,7 +37,7 @@ impl Team {
     /// Starts a thread for each of the workers, and leaves none. Refused as `NoMemory`, and then some of them may have
     /// been started, and others be left.
     pub(crate) fn start<
-        B: ClusterName + Send + Sync + 'static,
+        B: DatabaseName + Send + Sync + 'static,
         G: Gate + 'static,
         R: Threads + Wait + Copy + Send + Sync + 'static,
     >(&mut self, rt: &R, gated: &Arc<Gated<B, G>>, workers: &mut Workers<B>) -> Result<(), Refusal>
@@ -52,7 +52,7 @@ impl Team {
     /// Refuses what waits as `Closed`, lets the batches in flight end and the shards pull what the logs have, and waits
     /// for the end of all threads. Workers that were left are dropped before: some that were started wait for what they
     /// have of channels. It takes no memory.
-    pub(crate) fn stop<B: ClusterName, R: Threads + Wait>(self, rt: &R, shared: &Shared<B>) {
+    pub(crate) fn stop<B: DatabaseName, R: Threads + Wait>(self, rt: &R, shared: &Shared<B>) {
         let Team {
             resolvers,
             shards,

@@ -12,7 +12,7 @@ use crate::threads::shard::ShardWorker;
 use crossbeam_channel::{Receiver, Sender};
 use fdb_keys::Refusal;
 use fdb_proxy::Config;
-use fdb_sections::{ClusterName, CommitProxyAt, ResolverAt, SentPart, VerdictMessage, add};
+use fdb_sections::{CommitMachine, DatabaseName, ResolverAt, SentPart, VerdictMessage, add};
 use std::alloc::Global;
 use std::sync::Wait;
 
@@ -27,7 +27,7 @@ type Ties<B> = (
 
 /// The workers of all roles that have threads.
 #[derive(Drop)]
-pub(crate) struct Workers<B: ClusterName> {
+pub(crate) struct Workers<B: DatabaseName> {
     pub(crate) resolvers: Vec<ResolverWorker<B>>,
     pub(crate) shards: Vec<ShardWorker>,
     pub(crate) begins: Vec<ReadVersionWorker<B>>,
@@ -36,7 +36,7 @@ pub(crate) struct Workers<B: ClusterName> {
     parts: Vec<Sender<Option<SentPart<B>>>>,
 }
 
-impl<B: ClusterName> Workers<B> {
+impl<B: DatabaseName> Workers<B> {
     /// None yet. It takes no memory.
     pub(crate) fn new(alloc: Global) -> Self {
         Workers {
@@ -170,7 +170,7 @@ impl<B: ClusterName> Workers<B> {
 }
 
 // The worker of the commit proxy with the number. Refused only as `NoMemory`.
-fn commit_worker<B: ClusterName>(
+fn commit_worker<B: DatabaseName>(
     shared: &Shared<B>,
     number: u32,
     config: &Config,
@@ -182,12 +182,13 @@ fn commit_worker<B: ClusterName>(
     ensures { Answers result None (λ _. ⊤) }
 {
     let (parts, verdicts) = ties;
-    let at = CommitProxyAt::new(shared.alloc, shared.book(), number, config)?;
-    Ok(CommitWorker::new(shared.alloc, number, at, config.logs, parts, verdicts))
+    let resolvers = u32::try_from(verdicts.len()).unwrap_or(u32::MAX);
+    let machine = CommitMachine::new(shared.alloc, shared.book(), number, config, resolvers)?;
+    Ok(CommitWorker::new(number, machine, parts, verdicts))
 }
 
 // Ties the next commit proxy to the resolver, and gives the end that it receives from. Refused only as `NoMemory`.
-fn tie_one<B: ClusterName, R: Wait>(
+fn tie_one<B: DatabaseName, R: Wait>(
     rt: &R,
     alloc: Global,
     resolver: &mut ResolverWorker<B>,

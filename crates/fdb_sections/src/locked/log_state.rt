@@ -6,20 +6,20 @@ ghost use Rattle.fdb_sections.specs.Turns.{front_fault, AnswersInTurn};
 
 use crate::messages::log_message::LogMessage;
 use crate::messages::peek_message::PeekMessage;
-use crate::name::ClusterName;
+use crate::name::DatabaseName;
 use crate::roles::log::{AckMessage, LogAt};
 use fdb_keys::Refusal;
 
 /// A log beside what its users wait for.
 #[derive(Drop)]
-pub struct LogState<B: ClusterName> {
+pub struct LogState<B: DatabaseName> {
     /// The log.
     pub at: LogAt<B>,
     /// Why nothing is pushed any more, if that is so: the database closes, or a role failed.
     pub ended: Option<Refusal>,
 }
 
-impl<B: ClusterName> LogState<B> {
+impl<B: DatabaseName> LogState<B> {
     /// The log, to which may be pushed. It takes no memory, and O(1) time.
     pub fn new(at: LogAt<B>) -> Self
         ensures at { result.at ≡ at }

@@ -7,20 +7,20 @@ ghost use Rattle.fdb_sections.specs.ShardsAtFronts.{peek_fault, HasGoneOn};
 ghost use Rattle.fdb_sections.specs.Waiting.{ended_by, is_closed, reach_fault};
 
 use crate::messages::peek_message::PeekMessage;
-use crate::name::ClusterName;
+use crate::name::DatabaseName;
 use crate::roles::shard::ShardAt;
 use fdb_keys::{KeyRange, Refusal};
 
 /// A shard beside what its readers wait for.
 #[derive(Drop)]
-pub struct ShardState<B: ClusterName> {
+pub struct ShardState<B: DatabaseName> {
     /// The shard.
     pub at: ShardAt<B>,
     /// Why its thread pulls nothing any more, if that is so.
     pub ended: Option<Refusal>,
 }
 
-impl<B: ClusterName> ShardState<B> {
+impl<B: DatabaseName> ShardState<B> {
     /// The shard, which goes on. It takes no memory, and O(1) time.
     pub fn new(at: ShardAt<B>) -> Self
         ensures at { result.at ≡ at }

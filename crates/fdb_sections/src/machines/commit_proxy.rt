@@ -8,6 +8,9 @@ ghost use Rattle.fdb_keys.specs.Answers.{Answers, AnswersExactly};
 ghost use Rattle.fdb_keys.specs.declared.refusal.Refusal.TheVariants.{NoMemory, WrongState, Failed};
 ghost use Rattle.fdb_keys.specs.declared.refusal.Refusal.TheVariants.{CommitUnknownResult};
 ghost use Rattle.fdb_txn.specs.Limits.{place_limit};
+ghost use Rattle.fdb_txn.specs.book.History.{AreEntries};
+ghost use Rattle.fdb_book.specs.Fronts.{IsPrefix};
+ghost use Rattle.fdb_proxy.specs.CommitProxies.{new_fault, IsNewProxy};
 ghost use Rattle.fdb_proxy.specs.CommitProxies.{sealing, with_verdict, decide_fault, all_logged_fault, answers_in};
 ghost use Rattle.fdb_proxy.specs.CommitProxies.{finishing};
 ghost use Rattle.fdb_sections.specs.declared.machines.commit_proxy.Next.TheVariants as next;
@@ -22,17 +25,21 @@ ghost use Rattle.fdb_sections.specs.Receipts.{GrantAtFront};
 ghost use Rattle.fdb_sections.specs.Ticketing.{AnswersTicket};
 
 use crate::known_front::KnownFront;
-use crate::making::{take_first, why_of};
+use crate::making::{beside, take_first, why_of};
+use crate::messages::batch_message::BatchMessage;
+use crate::messages::commit_message::CommitMessage;
 use crate::messages::log_message::LogMessage;
 use crate::messages::part_message::PartMessage;
 use crate::messages::reply::CommitReply;
 use crate::messages::verdict_message::VerdictMessage;
-use crate::name::ClusterName;
+use crate::name::DatabaseName;
 use crate::roles::commit_proxy::{CommitProxyAt, LoggedFront};
 use crate::roles::log::AckMessage;
 use crate::roles::sequencer::{GrantMessage, Issued, Reported};
+use fdb_book::Book;
 use fdb_keys::{Refusal, Refused};
-use fdb_txn::{Batch, Sealed};
+use fdb_proxy::Config;
+use fdb_txn::Sealed;
 use std::alloc::Global;
 use std::collections::VecDeque;
 use std::marker::Model;
@@ -88,9 +95,11 @@ enum Phase {
 /// A commit proxy beside who waits for its answers, in the order of the requests, the batch in flight first, and beside
 /// what is ready to be sent.
 #[derive(Drop)]
-pub struct CommitMachine<B: ClusterName, W> {
+pub struct CommitMachine<B: DatabaseName, W> {
     alloc: Global,
     at: CommitProxyAt<B>,
+    // The longest front with which a request came.
+    asked: KnownFront<B>,
     phase: Phase,
     resolvers: u32,
     logs: u32,
@@ -106,7 +115,8 @@ pub struct CommitMachine<B: ClusterName, W> {
     full: Option<KnownFront<B>>,
 }
 
-impl<B: ClusterName, W> Model for CommitMachine<B, W> {
+impl<B: DatabaseName, W> Model for CommitMachine<B, W> {
+    ghost use Rattle.fdb_sections.specs.Asking.{HasAsked};
     ghost use Rattle.fdb_sections.specs.CommitMachines.{CommitMachine as Seen};
 
     ghost Value = { Seen B W };
@@ -125,10 +135,26 @@ impl<B: ClusterName, W> Model for CommitMachine<B, W> {
       replies = it.replies.items;
       full = it.full;
     } };
+
+    // Each request that waits or is in flight is asked for at the longest front.
+    ghost invariant = { λ it. HasAsked B.allows B.config.resolver_splits it.asked it.at.state.proxy };
+}
+
+// The longer one of both fronts is kept. It takes no memory, and O(1) time.
+fn keep_longer<B: DatabaseName>(own: &mut KnownFront<B>, other: KnownFront<B>)
+    ensures longer { IsPrefix own.old own.new × IsPrefix other own.new }
+    ensures entries { AreEntries (suc (length B.config.resolver_splits)) 0 own.new }
+{
+    own.know_one_book(&other);
+    own.know_entries();
+    other.know_entries();
+    if own.len() < other.len() {
+        *own = other;
+    }
 }
 
 // Hands a request to the proxy, unless all who wait are being refused: then it is dropped.
-fn hand_on<B: ClusterName>(
+fn hand_on<B: DatabaseName>(
     at: &mut CommitProxyAt<B>,
     phase: Phase,
     sealed: Sealed,
@@ -150,30 +176,42 @@ fn hand_on<B: ClusterName>(
     }
 }
 
-impl<B: ClusterName, W: Drop> CommitMachine<B, W> {
-    /// A commit proxy that nobody has asked, of so many resolvers and logs. It takes no memory, and O(1) time.
-    pub fn new(alloc: Global, at: CommitProxyAt<B>, resolvers: u32, logs: u32) -> Self
-        ensures { result ≡ record {
-          front = at.front;
-          proxy = at.state.proxy;
-          resolvers = resolvers;
-          logs = logs;
-          phase = phase.Idle;
-          left = 0;
-          waiting = [];
-          entered = 0;
-          parts = [];
-          messages = [];
-          replies = [];
-          full = None;
-        } }
+impl<B: DatabaseName, W: Drop> CommitMachine<B, W> {
+    /// The commit proxy with the number, which nobody has asked, of so many resolvers and logs. Refused as
+    /// `CommitProxyAt::new` is.
+    pub fn new(
+        alloc: Global,
+        book: &Book<B>,
+        index: u32,
+        config: &Config,
+        resolvers: u32,
+    ) -> Result<Self, Refusal>
+        requires { config.now ≡ B.config }
+        ensures { Answers result (new_fault index config.now) (λ it. IsNewProxy index config.now it.proxy
+            × (it ≡ record {
+              front = [];
+              proxy = it.proxy;
+              resolvers = resolvers;
+              logs = config.now.logs;
+              phase = phase.Idle;
+              left = 0;
+              waiting = [];
+              entered = 0;
+              parts = [];
+              messages = [];
+              replies = [];
+              full = None;
+            })) }
     {
-        CommitMachine {
+        let at = CommitProxyAt::new(alloc, book, index, config)?;
+        let (at, asked) = beside(at, KnownFront::empty(alloc, book))?;
+        Ok(CommitMachine {
             alloc,
             at,
+            asked,
             phase: Phase::Idle,
             resolvers,
-            logs,
+            logs: config.logs,
             left: 0,
             waiting: VecDeque::new(alloc),
             entered: 0,
@@ -181,7 +219,7 @@ impl<B: ClusterName, W: Drop> CommitMachine<B, W> {
             messages: VecDeque::new(alloc),
             replies: VecDeque::new(alloc),
             full: None,
-        }
+        })
     }
 
     /// What it waits for, or what is ready. It takes no memory, and O(1) time.
@@ -211,23 +249,25 @@ impl<B: ClusterName, W: Drop> CommitMachine<B, W> {
     /// Takes a request, of who waits for its answer after all others. While all who wait are refused, it is dropped,
     /// and who asks waits for that. Refused as `CommitProxyAt::submit` refuses it, and as `NoMemory`; then who asks is
     /// handed back, and nothing changes. It takes O(1) expected time but for growth.
-    pub fn submit(&mut self, sealed: Sealed, who: W) -> Result<(), Refused<W>>
-        ensures taken { OnOk result ((submit_fault self.old.phase self.old.proxy sealed ≡ None)
+    pub fn submit(&mut self, asked: CommitMessage<B>, who: W) -> Result<(), Refused<W>>
+        ensures taken { OnOk result ((submit_fault self.old.phase self.old.proxy asked.transaction ≡ None)
             × (self.new ≡ record self.old {
-              proxy = submitting self.old.phase self.old.proxy sealed;
+              proxy = submitting self.old.phase self.old.proxy asked.transaction;
               waiting = self.old.waiting ++ who ∷ [];
             })) }
         ensures refused { OnErr result (self.new ≡ self.old) }
         ensures back { IfErr result (λ refused. (refused.back ≡ who) × ((refused.why ≡ NoMemory)
-            ⊎ (submit_fault self.old.phase self.old.proxy sealed ≡ Some refused.why))) }
+            ⊎ (submit_fault self.old.phase self.old.proxy asked.transaction ≡ Some refused.why))) }
     {
         if self.waiting.reserve(1).is_err() {
-            drop(sealed);
+            drop(asked);
             return Err(Refused {
                 why: Refusal::NoMemory,
                 back: who,
             });
         }
+        let CommitMessage { front, sealed } = asked;
+        keep_longer(&mut self.asked, front);
         if let Err(why) = hand_on(&mut self.at, self.phase, sealed) {
             return Err(Refused { why, back: who });
         }
@@ -247,9 +287,9 @@ impl<B: ClusterName, W: Drop> CommitMachine<B, W> {
     /// Seals the batch of those who wait, at most 4,096 of them, and gives it, for which the sequencer is to be asked
     /// for an entry. Refused as `WrongState` while a batch is in flight, while answers are ready, and once it has
     /// failed, and as `NoMemory`; then nothing changes.
-    pub fn seal(&mut self) -> Result<Batch, Refusal>
-        ensures answers { Answers result (seal_fault self.old) (λ batch.
-            (batch ≡ take place_limit self.old.proxy.waiting)
+    pub fn seal(&mut self) -> Result<BatchMessage<B>, Refusal>
+        ensures answers { Answers result (seal_fault self.old) (λ asked.
+            (asked.batch ≡ take place_limit self.old.proxy.waiting)
             × (self.new ≡ record self.old {
               proxy = sealing self.old.proxy;
               entered = length (sealing self.old.proxy).batch;
@@ -260,10 +300,12 @@ impl<B: ClusterName, W: Drop> CommitMachine<B, W> {
         if !self.is_at_rest() {
             return Err(Refusal::WrongState);
         }
+        self.at.check_seal()?;
+        let asked = self.asked.share()?;
         let batch = self.at.seal()?;
         self.entered = self.at.in_flight();
         self.phase = Phase::Sealed;
-        Ok(batch)
+        Ok(BatchMessage::new(asked, batch))
     }
 
     /// Takes the entry that the sequencer gave the batch: each resolver's part is ready then. A refusal, which

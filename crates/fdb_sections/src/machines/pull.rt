@@ -7,7 +7,7 @@ ghost use Rattle.fdb_sections.specs.Pulls.{next_of, HasPeeked, HasAppliedGiven, 
 use crate::locked::log_state::LogState;
 use crate::locked::shard_state::ShardState;
 use crate::messages::peek_message::PeekMessage;
-use crate::name::ClusterName;
+use crate::name::DatabaseName;
 use fdb_keys::Refusal;
 use fdb_txn::WINDOW;
 use std::marker::Model;
@@ -48,7 +48,7 @@ enum Phase {
 
 /// A shard's pull from its log. The shard and the log stand under locks of their own, and are lent to it one at a time.
 #[derive(Drop)]
-pub struct PullMachine<B: ClusterName> {
+pub struct PullMachine<B: DatabaseName> {
     tag: u32,
     // The version through which the log's messages were taken.
     through: u64,
@@ -56,7 +56,7 @@ pub struct PullMachine<B: ClusterName> {
     given: Option<PeekMessage<B>>,
 }
 
-impl<B: ClusterName> Model for PullMachine<B> {
+impl<B: DatabaseName> Model for PullMachine<B> {
     ghost use Rattle.fdb_sections.specs.Pulls.{PullMachine as Seen};
 
     ghost Value = { Seen };
@@ -64,7 +64,7 @@ impl<B: ClusterName> Model for PullMachine<B> {
     ghost view = { λ it. record { tag = it.tag; through = it.through; phase = it.phase; given = it.given } };
 }
 
-impl<B: ClusterName> PullMachine<B> {
+impl<B: DatabaseName> PullMachine<B> {
     /// The pull of the shard with the tag, which applied nothing. It takes no memory, and O(1) time.
     pub fn new(tag: u32) -> Self
         ensures { result ≡ record { tag = tag; through = 0; phase = phase.Resting; given = None } }

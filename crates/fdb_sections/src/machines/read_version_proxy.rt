@@ -7,7 +7,7 @@ ghost use Rattle.fdb_sections.specs.declared.messages.reply.GrantReply.TheVarian
 ghost use Rattle.fdb_sections.specs.ReadVersionMachines.{granting, IsTold};
 
 use crate::messages::reply::GrantReply;
-use crate::name::ClusterName;
+use crate::name::DatabaseName;
 use crate::roles::sequencer::GrantMessage;
 use fdb_keys::{Refusal, Refused};
 use fdb_proxy::GrvCore;
@@ -17,7 +17,7 @@ use std::marker::Model;
 
 /// A read-version proxy beside who waits for its answers, in the order of asking.
 #[derive(Drop)]
-pub struct ReadVersionMachine<B: ClusterName, W> {
+pub struct ReadVersionMachine<B: DatabaseName, W> {
     state: GrvCore,
     waiting: VecDeque<W>,
     // What the first who wait are told, and how many they are. Who asked later waits for another grant, since a version
@@ -26,7 +26,7 @@ pub struct ReadVersionMachine<B: ClusterName, W> {
     granted: usize,
 }
 
-impl<B: ClusterName, W> Model for ReadVersionMachine<B, W> {
+impl<B: DatabaseName, W> Model for ReadVersionMachine<B, W> {
     ghost use Rattle.fdb_sections.specs.ReadVersionMachines.{ReadVersionMachine as Seen};
 
     ghost Value = { Seen B W };
@@ -34,7 +34,7 @@ impl<B: ClusterName, W> Model for ReadVersionMachine<B, W> {
     ghost view = { λ it. record { waiting = it.waiting.items; answer = it.answer; granted = it.granted } };
 }
 
-impl<B: ClusterName, W: Drop> ReadVersionMachine<B, W> {
+impl<B: DatabaseName, W: Drop> ReadVersionMachine<B, W> {
     /// A proxy that nobody has asked. It takes no memory, and O(1) time.
     pub fn new(alloc: Global) -> Self
         ensures { result ≡ record { waiting = []; answer = None; granted = 0 } }

@@ -9,7 +9,7 @@ ghost use Rattle.fdb_sections.specs.ResolverMachines.{keeping, finding, TakesTur
 use crate::making::why_of;
 use crate::messages::part_message::PartMessage;
 use crate::messages::verdict_message::VerdictMessage;
-use crate::name::ClusterName;
+use crate::name::DatabaseName;
 use crate::roles::resolver::ResolverAt;
 use fdb_keys::Refusal;
 use fdb_txn::Room;
@@ -17,7 +17,7 @@ use std::alloc::Global;
 
 /// A part, with the number of the commit proxy that sends it.
 #[derive(Drop)]
-pub struct SentPart<B: ClusterName> {
+pub struct SentPart<B: DatabaseName> {
     /// The number of the commit proxy.
     pub proxy: u32,
     /// The part.
@@ -26,7 +26,7 @@ pub struct SentPart<B: ClusterName> {
 
 /// Verdicts, with the number of the commit proxy that they are for.
 #[derive(Drop)]
-pub struct SentVerdicts<B: ClusterName> {
+pub struct SentVerdicts<B: DatabaseName> {
     /// The number of the commit proxy.
     pub proxy: u32,
     /// The verdicts.
@@ -35,13 +35,13 @@ pub struct SentVerdicts<B: ClusterName> {
 
 /// A resolver beside the parts that came, of which the one whose turn it is stands by itself.
 #[derive(Drop)]
-pub struct ResolverMachine<B: ClusterName> {
+pub struct ResolverMachine<B: DatabaseName> {
     at: ResolverAt<B>,
     early: Room<SentPart<B>>,
     turn: Option<SentPart<B>>,
 }
 
-impl<B: ClusterName> ResolverMachine<B> {
+impl<B: DatabaseName> ResolverMachine<B> {
     /// The resolver, to which no part came. It takes no memory, and O(1) time.
     pub fn new(alloc: Global, at: ResolverAt<B>) -> Self
         ensures { result ≡ record { at = at; early = empty; turn = None } }

@@ -1,18 +1,18 @@
 ghost use Rattle.std.specs.Prelude.{◌≡◌};
 
 use crate::known_front::KnownFront;
-use crate::name::ClusterName;
+use crate::name::DatabaseName;
 use fdb_log::LogMsg;
 use std::marker::Model;
 
 /// What a log is sent: its message of the last entry of the front.
 #[derive(Drop)]
-pub struct LogMessage<B: ClusterName> {
+pub struct LogMessage<B: DatabaseName> {
     pub(crate) front: KnownFront<B>,
     pub(crate) message: LogMsg,
 }
 
-impl<B: ClusterName> Model for LogMessage<B> {
+impl<B: DatabaseName> Model for LogMessage<B> {
     ghost use Rattle.fdb_sections.specs.Messages.{LogMsgAtFront, IsLastMessage};
 
     ghost Value = { LogMsgAtFront };
@@ -22,7 +22,7 @@ impl<B: ClusterName> Model for LogMessage<B> {
     ghost invariant = { λ sent. IsLastMessage B.config (record { front = sent.front; message = sent.message }) };
 }
 
-impl<B: ClusterName> LogMessage<B> {
+impl<B: DatabaseName> LogMessage<B> {
     /// The number of the log that it is for. It takes no memory, and O(1) time.
     pub fn log(&self) -> u32
         ensures { result ≡ self.now.message.log }

@@ -1,5 +1,5 @@
 use crate::known_front::KnownFront;
-use crate::name::ClusterName;
+use crate::name::DatabaseName;
 use fdb_keys::RangeSet;
 use fdb_proxy::Outcome;
 use std::marker::Model;
@@ -7,14 +7,14 @@ use std::marker::Model;
 /// What a session is told of its transaction: what became of a place of the front's last entry, and the points at which
 /// it conflicts.
 #[derive(Drop)]
-pub struct OutcomeMessage<B: ClusterName> {
+pub struct OutcomeMessage<B: DatabaseName> {
     pub(crate) front: KnownFront<B>,
     pub(crate) place: u32,
     pub(crate) outcome: Outcome,
     pub(crate) conflict: RangeSet,
 }
 
-impl<B: ClusterName> Model for OutcomeMessage<B> {
+impl<B: DatabaseName> Model for OutcomeMessage<B> {
     ghost use Rattle.fdb_sections.specs.Receipts.{OutcomeAtFront, IsOutcome};
 
     ghost Value = { OutcomeAtFront };

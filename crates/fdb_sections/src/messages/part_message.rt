@@ -1,18 +1,18 @@
 ghost use Rattle.std.specs.Prelude.{◌≡◌};
 
 use crate::known_front::KnownFront;
-use crate::name::ClusterName;
+use crate::name::DatabaseName;
 use fdb_resolver::Part;
 use std::marker::Model;
 
 /// What a resolver is sent: its part of the last entry of the front.
 #[derive(Drop)]
-pub struct PartMessage<B: ClusterName> {
+pub struct PartMessage<B: DatabaseName> {
     pub(crate) front: KnownFront<B>,
     pub(crate) part: Part,
 }
 
-impl<B: ClusterName> Model for PartMessage<B> {
+impl<B: DatabaseName> Model for PartMessage<B> {
     ghost use Rattle.fdb_sections.specs.Messages.{PartAtFront, IsLastPart};
 
     ghost Value = { PartAtFront };
@@ -22,7 +22,7 @@ impl<B: ClusterName> Model for PartMessage<B> {
     ghost invariant = { λ sent. IsLastPart B.config.resolver_splits (record { front = sent.front; part = sent.part }) };
 }
 
-impl<B: ClusterName> PartMessage<B> {
+impl<B: DatabaseName> PartMessage<B> {
     /// The number of the resolver that it is for. It takes no memory, and O(1) time.
     pub fn resolver(&self) -> u32
         ensures { result ≡ self.now.part.resolver }

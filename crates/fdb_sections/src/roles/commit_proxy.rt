@@ -26,7 +26,7 @@ use crate::messages::outcome_message::OutcomeMessage;
 use crate::messages::part_message::PartMessage;
 use crate::messages::reply::CommitReply;
 use crate::messages::verdict_message::VerdictMessage;
-use crate::name::ClusterName;
+use crate::name::DatabaseName;
 use crate::roles::commit_proxy::ticketing::is_ticket_of;
 use crate::roles::log::AckMessage;
 use crate::roles::sequencer::Reported;
@@ -46,11 +46,11 @@ pub(crate) mod ticketing;
 /// What says that all logs took the last entry of the front, which `CommitProxyAt::logged_front` alone makes. Contracts
 /// see the front.
 #[derive(Drop)]
-pub struct LoggedFront<B: ClusterName> {
+pub struct LoggedFront<B: DatabaseName> {
     front: KnownFront<B>,
 }
 
-impl<B: ClusterName> Model for LoggedFront<B> {
+impl<B: DatabaseName> Model for LoggedFront<B> {
     ghost use Rattle.std.specs.Prelude.{List};
     ghost use Rattle.fdb_txn.specs.declared.entry.Entry.{Entry as AnEntry};
 
@@ -59,7 +59,7 @@ impl<B: ClusterName> Model for LoggedFront<B> {
     ghost view = { λ logged. logged.front };
 }
 
-impl<B: ClusterName> LoggedFront<B> {
+impl<B: DatabaseName> LoggedFront<B> {
     /// The version of the last entry, 0 where there is none. It takes no memory, and O(1) time.
     pub(crate) fn version(&self) -> u64
         ensures { result ≡ last_version self.now }
@@ -79,14 +79,14 @@ impl<B: ClusterName> LoggedFront<B> {
 /// A commit proxy, which has the entries of its front. The last one is that of its last ticket. Once its batch is
 /// decided, it has the conflict sets of the batch's places.
 #[derive(Drop)]
-pub struct CommitProxyAt<B: ClusterName> {
+pub struct CommitProxyAt<B: DatabaseName> {
     front: KnownFront<B>,
     state: CommitCore,
     conflicts: Items<RangeSet>,
     alloc: Global,
 }
 
-impl<B: ClusterName> Model for CommitProxyAt<B> {
+impl<B: DatabaseName> Model for CommitProxyAt<B> {
     ghost use Rattle.fdb_sections.specs.CommitProxiesAtFronts.{AreSetsOf, CommitProxyAtFront, IsThere};
 
     ghost Value = { CommitProxyAtFront };
@@ -97,7 +97,7 @@ impl<B: ClusterName> Model for CommitProxyAt<B> {
         × AreSetsOf B.config at.front at.state.proxy.stage at.conflicts };
 }
 
-impl<B: ClusterName> CommitProxyAt<B> {
+impl<B: DatabaseName> CommitProxyAt<B> {
     /// The commit proxy with the number, which has no entry, and where nobody waits. Refused as `BadConfig` where the
     /// configuration isn't legal and where it has no proxy with the number, and as `NoMemory`.
     pub fn new(alloc: Global, book: &Book<B>, index: u32, config: &Config) -> Result<Self, Refusal>
@@ -127,6 +127,20 @@ impl<B: ClusterName> CommitProxyAt<B> {
         ensures front { self.new.front ≡ self.old.front }
     {
         self.state.submit(sealed)
+    }
+
+    /// Whether a batch may be sealed. Refused as `Failed`, and as `WrongState` where a batch is in flight already. It
+    /// takes no memory, and O(1) time.
+    pub(crate) fn check_seal(&self) -> Result<(), Refusal>
+        ensures { AnswersExactly result (seal_fault self.now.state.proxy) (λ _. ⊤) }
+    {
+        if self.state.is_failed() {
+            return Err(Refusal::Failed);
+        }
+        if !self.state.is_idle() {
+            return Err(Refusal::WrongState);
+        }
+        Ok(())
     }
 
     /// The first 4,096 of those that wait, in order, become the batch in flight, all of them where there are no more.
@@ -389,6 +403,8 @@ impl<B: ClusterName> CommitProxyAt<B> {
             × (self.new.state.proxy ≡ finishing self.old.state.proxy)) }
         ensures why { IfErr result (λ why.
             (why ≡ NoMemory) ⊎ (report_fault self.old.front self.old.state.proxy reported.now ≡ Some why)) }
+        ensures kept { OnErr result ((self.new.state.proxy ≡ self.old.state.proxy)
+            ⊎ (self.new.state.proxy ≡ finishing self.old.state.proxy)) }
         ensures front { self.new.front ≡ self.old.front }
     {
         self.check_reported(reported)?;

@@ -7,7 +7,7 @@ ghost use Rattle.fdb_sections.specs.Turns.{front_fault, AnswersInTurn};
 use crate::known_front::KnownFront;
 use crate::messages::log_message::LogMessage;
 use crate::messages::peek_message::PeekMessage;
-use crate::name::ClusterName;
+use crate::name::DatabaseName;
 use fdb_book::Book;
 use fdb_keys::Refusal;
 use fdb_log::{LogAck, LogCore};
@@ -16,12 +16,12 @@ use std::marker::Model;
 
 /// A log's acknowledgement, which `LogAt::push` alone makes: the log took the last entry of the front.
 #[derive(Drop)]
-pub struct AckMessage<B: ClusterName> {
+pub struct AckMessage<B: DatabaseName> {
     front: KnownFront<B>,
     ack: LogAck,
 }
 
-impl<B: ClusterName> Model for AckMessage<B> {
+impl<B: DatabaseName> Model for AckMessage<B> {
     ghost use Rattle.fdb_sections.specs.Messages.{AckAtFront, IsLastAck};
 
     ghost Value = { AckAtFront };
@@ -31,7 +31,7 @@ impl<B: ClusterName> Model for AckMessage<B> {
     ghost invariant = { λ sent. IsLastAck B.config (record { front = sent.front; ack = sent.ack }) };
 }
 
-impl<B: ClusterName> AckMessage<B> {
+impl<B: DatabaseName> AckMessage<B> {
     /// What is acknowledged. It takes no memory, and O(1) time.
     pub(crate) fn ack(&self) -> LogAck
         ensures { result ≡ self.now.ack }
@@ -49,12 +49,12 @@ impl<B: ClusterName> AckMessage<B> {
 
 /// A log, which took the entries of its front.
 #[derive(Drop)]
-pub struct LogAt<B: ClusterName> {
+pub struct LogAt<B: DatabaseName> {
     front: KnownFront<B>,
     state: LogCore,
 }
 
-impl<B: ClusterName> Model for LogAt<B> {
+impl<B: DatabaseName> Model for LogAt<B> {
     ghost use Rattle.std.specs.Prelude.{◌≡◌, ◌<◌, false};
     ghost use Rattle.fdb_roles.specs.AtBook.{IsLogAt};
     ghost use Rattle.fdb_sections.specs.RolesAtFronts.{LogAtFront};
@@ -67,7 +67,7 @@ impl<B: ClusterName> Model for LogAt<B> {
         × (at.state.is_failed ≡ false → IsLogAt B.config at.front at.state.log at.state) };
 }
 
-impl<B: ClusterName> LogAt<B> {
+impl<B: DatabaseName> LogAt<B> {
     /// The log with the number, which took nothing. There are as many logs as the configuration says, and a tag for
     /// each of its shards. Refused as `BadConfig` where there is no log with the number, or the configuration has no
     /// legal numbers of logs and shards, and as `NoMemory`.

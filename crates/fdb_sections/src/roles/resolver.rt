@@ -7,7 +7,7 @@ ghost use Rattle.fdb_sections.specs.Turns.{front_fault, AnswersInTurn};
 use crate::known_front::KnownFront;
 use crate::messages::part_message::PartMessage;
 use crate::messages::verdict_message::VerdictMessage;
-use crate::name::ClusterName;
+use crate::name::DatabaseName;
 use fdb_book::Book;
 use fdb_keys::Refusal;
 use fdb_resolver::ResolverCore;
@@ -16,12 +16,12 @@ use std::marker::Model;
 
 /// A resolver, which took the entries of its front.
 #[derive(Drop)]
-pub struct ResolverAt<B: ClusterName> {
+pub struct ResolverAt<B: DatabaseName> {
     front: KnownFront<B>,
     state: ResolverCore,
 }
 
-impl<B: ClusterName> Model for ResolverAt<B> {
+impl<B: DatabaseName> Model for ResolverAt<B> {
     ghost use Rattle.std.specs.Prelude.{◌≡◌, ◌<◌, suc, false, length};
     ghost use Rattle.fdb_roles.specs.AtBook.{IsResolverAt};
     ghost use Rattle.fdb_sections.specs.RolesAtFronts.{ResolverAtFront};
@@ -34,7 +34,7 @@ impl<B: ClusterName> Model for ResolverAt<B> {
         × (at.state.is_failed ≡ false → IsResolverAt B.config.resolver_splits at.front at.state.index at.state) };
 }
 
-impl<B: ClusterName> ResolverAt<B> {
+impl<B: DatabaseName> ResolverAt<B> {
     /// The resolver with the number, which took nothing. Refused only as `NoMemory`.
     pub fn new(alloc: Global, book: &Book<B>, index: u32) -> Result<Self, Refusal>
         requires { index < suc (length B.config.resolver_splits) }

@@ -12,7 +12,8 @@ ghost use Rattle.fdb_roles.specs.Entries.{dated_moves, entry_of};
 ghost use Rattle.fdb_sections.specs.Issuing.{AnswersIssue};
 
 use crate::known_front::KnownFront;
-use crate::name::ClusterName;
+use crate::messages::batch_message::BatchMessage;
+use crate::name::DatabaseName;
 use crate::roles::commit_proxy::LoggedFront;
 use fdb_book::Book;
 use fdb_keys::Refusal;
@@ -23,7 +24,7 @@ use std::marker::Model;
 
 /// What a commit proxy is given for a batch: its ticket, with the front that has the ticket's entry last.
 #[derive(Drop)]
-pub struct Issued<B: ClusterName> {
+pub struct Issued<B: DatabaseName> {
     pub ticket: Ticket,
     pub front: KnownFront<B>,
 }
@@ -31,11 +32,11 @@ pub struct Issued<B: ClusterName> {
 /// What says that the front's last entry was reported to the sequencer as committed, which `SequencerAt::report` alone
 /// makes. Contracts see the front.
 #[derive(Drop)]
-pub struct Reported<B: ClusterName> {
+pub struct Reported<B: DatabaseName> {
     front: KnownFront<B>,
 }
 
-impl<B: ClusterName> Model for Reported<B> {
+impl<B: DatabaseName> Model for Reported<B> {
     ghost use Rattle.std.specs.Prelude.{List};
     ghost use Rattle.fdb_txn.specs.declared.entry.Entry.{Entry as AnEntry};
 
@@ -44,7 +45,7 @@ impl<B: ClusterName> Model for Reported<B> {
     ghost view = { λ reported. reported.front };
 }
 
-impl<B: ClusterName> Reported<B> {
+impl<B: DatabaseName> Reported<B> {
     /// The front, lent. It takes no memory, and O(1) time.
     pub(crate) fn front(&self) -> &KnownFront<B>
         ensures { result.now ≡ self.now }
@@ -63,12 +64,12 @@ impl<B: ClusterName> Reported<B> {
 /// What a session is told when it begins: a version that was reported as committed, with a front that reaches it.
 /// `SequencerAt::granted` alone makes the first one.
 #[derive(Drop)]
-pub struct GrantMessage<B: ClusterName> {
+pub struct GrantMessage<B: DatabaseName> {
     front: KnownFront<B>,
     committed: u64,
 }
 
-impl<B: ClusterName> Model for GrantMessage<B> {
+impl<B: DatabaseName> Model for GrantMessage<B> {
     ghost use Rattle.std.specs.Prelude.{◌≤◌};
     ghost use Rattle.fdb_txn.specs.book.Book.{last_version};
     ghost use Rattle.fdb_sections.specs.Receipts.{GrantAtFront};
@@ -80,7 +81,7 @@ impl<B: ClusterName> Model for GrantMessage<B> {
     ghost invariant = { λ granted. granted.committed ≤ last_version granted.front };
 }
 
-impl<B: ClusterName> GrantMessage<B> {
+impl<B: DatabaseName> GrantMessage<B> {
     /// The committed version. It takes no memory, and O(1) time.
     pub fn committed(&self) -> u64
         ensures value { result ≡ self.now.committed }
@@ -121,12 +122,12 @@ impl<B: ClusterName> GrantMessage<B> {
 
 /// The sequencer, which accepted the tickets of its front's entries. It alone appends to the book.
 #[derive(Drop)]
-pub struct SequencerAt<B: ClusterName> {
+pub struct SequencerAt<B: DatabaseName> {
     front: KnownFront<B>,
     state: SequencerCore,
 }
 
-impl<B: ClusterName> Model for SequencerAt<B> {
+impl<B: DatabaseName> Model for SequencerAt<B> {
     ghost use Rattle.std.specs.Prelude.{◌≡◌, suc, length};
     ghost use Rattle.fdb_roles.specs.AtBook.{IsSequencerAt};
     ghost use Rattle.fdb_sections.specs.RolesAtFronts.{SequencerAtFront};
@@ -139,7 +140,7 @@ impl<B: ClusterName> Model for SequencerAt<B> {
         × (at.state.resolvers ≡ suc (length B.config.resolver_splits)) };
 }
 
-impl<B: ClusterName> SequencerAt<B> {
+impl<B: DatabaseName> SequencerAt<B> {
     /// The sequencer of so many commit proxies and resolvers, as the configuration says, before its first ticket.
     /// Refused as `BadConfig` where these numbers aren't legal, and as `NoMemory`.
     pub fn new(alloc: Global, book: &Book<B>, proxies: u32, resolvers: u32) -> Result<Self, Refusal>
@@ -153,8 +154,8 @@ impl<B: ClusterName> SequencerAt<B> {
         Ok(SequencerAt { front, state })
     }
 
-    /// Gives the proxy's batch its entry: plans a ticket, appends the ticket's entry to the book, and accepts the
-    /// ticket. It answers the ticket with the front that has the entry last, which the sequencer keeps too.
+    /// Gives the batch that a proxy asks for its entry: plans a ticket, appends the ticket's entry to the book, and
+    /// accepts the ticket. It answers the ticket with the front that has the entry last, which the sequencer keeps too.
     ///
     /// Refused as `SequencerCore::plan` refuses; then as `Chain` where a transaction of the batch read at the ticket's
     /// version or above it, as `Repeated` where an id stands in the book or earlier in the batch, as `BookFull`, as
@@ -167,22 +168,23 @@ impl<B: ClusterName> SequencerAt<B> {
         book: &Book<B>,
         proxy: u32,
         advance: u64,
-        batch: Batch,
+        asked: BatchMessage<B>,
     ) -> Result<Issued<B>, Refusal>
         ensures answers { AnswersIssue result (plan_fault self.old.state proxy advance)
-            (append_fault (length B.cells) self.old.front (entry_of (planned self.old.state proxy advance) batch))
+            (append_fault (length B.cells) self.old.front (entry_of (planned self.old.state proxy advance) asked.batch))
             (λ issued. (issued.ticket ≡ planned self.old.state proxy advance)
-            × (issued.front ≡ self.old.front ++ entry_of (planned self.old.state proxy advance) batch ∷ [])) }
+            × (issued.front ≡ self.old.front ++ entry_of (planned self.old.state proxy advance) asked.batch ∷ [])) }
         ensures accepted { IfOk result (λ issued.
             self.new ≡ record { front = issued.front; state = accepting self.old.state issued.ticket }) }
         ensures reads { IfOk result (λ issued. (last_version issued.front ≡ issued.ticket.version)
-            × AllByRecursion (λ (t : Transaction). t.read < issued.ticket.version) batch) }
+            × AllByRecursion (λ (t : Transaction). t.read < issued.ticket.version) asked.batch) }
         ensures moves { IfOk result (λ issued. AreLastOf issued.ticket.moves (dated_moves issued.front)) }
         ensures refused { OnErr result (self.new ≡ self.old) }
     {
         let ticket = self.state.plan(proxy, advance)?;
+        let BatchMessage { front: seen, batch } = asked;
         let entry = entry_for(&ticket, batch)?;
-        let front = self.front.append(alloc, book, entry)?;
+        let front = self.front.append(alloc, book, entry, &seen)?;
         accept(&mut self.state, &ticket);
         Ok(Issued { ticket, front })
     }

@@ -10,7 +10,7 @@ ghost use Rattle.fdb_sections.specs.ShardsAtFronts.{peek_fault, shorter_fault, H
 
 use crate::known_front::KnownFront;
 use crate::messages::peek_message::PeekMessage;
-use crate::name::ClusterName;
+use crate::name::DatabaseName;
 use fdb_book::Book;
 use fdb_keys::{KeyRange, Refusal};
 use fdb_storage::Shard;
@@ -25,13 +25,13 @@ pub(crate) mod view;
 
 /// A shard, which applied the entries of its front. Its tag is kept beside the state, which doesn't tell it.
 #[derive(Drop)]
-pub struct ShardAt<B: ClusterName> {
+pub struct ShardAt<B: DatabaseName> {
     tag: u32,
     front: KnownFront<B>,
     shard: Shard,
 }
 
-impl<B: ClusterName> Model for ShardAt<B> {
+impl<B: DatabaseName> Model for ShardAt<B> {
     ghost use Rattle.std.specs.Prelude.{◌≡◌};
     ghost use Rattle.fdb_sections.specs.ShardsAtFronts.{ShardAtFront, IsThere};
 
@@ -43,7 +43,7 @@ impl<B: ClusterName> Model for ShardAt<B> {
         × IsThere B.config (record { front = at.front; shard = at.shard }) };
 }
 
-impl<B: ClusterName> ShardAt<B> {
+impl<B: DatabaseName> ShardAt<B> {
     /// The shard of the range with the number, which applied nothing. The range is that piece of the keys between the
     /// configuration's splits. Refused only as `NoMemory`.
     pub fn new(alloc: Global, book: &Book<B>, tag: u32, range: KeyRange) -> Result<Self, Refusal>

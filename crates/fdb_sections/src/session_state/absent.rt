@@ -4,7 +4,7 @@ ghost use Rattle.fdb_client.specs.Programs.{commit_request_of};
 ghost use Rattle.fdb_sections.specs.Absent.{IsNotAmong, IsNowhere};
 
 use crate::known_front::KnownFront;
-use crate::name::ClusterName;
+use crate::name::DatabaseName;
 use crate::session_state::submitted::Submitted;
 use fdb_txn::Sealed;
 
@@ -23,7 +23,7 @@ fn has_request(batch: &[Sealed], submitted: &Submitted) -> bool
 
 /// Whether the request stands at some place of the front. It takes no memory, and O(n) comparisons for the n
 /// transactions of the entries above its read version, since it can stand in no other.
-pub(crate) fn shows<B: ClusterName>(front: &KnownFront<B>, submitted: &Submitted) -> bool
+pub(crate) fn shows<B: DatabaseName>(front: &KnownFront<B>, submitted: &Submitted) -> bool
     ensures absent { result ≡ false → IsNowhere (commit_request_of submitted.now.transaction) front.now }
     ensures present { result ≡ true → IsNowhere (commit_request_of submitted.now.transaction) front.now → ⊥ }
 {

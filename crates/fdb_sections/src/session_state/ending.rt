@@ -12,7 +12,7 @@ ghost use Rattle.fdb_sections.specs.Sessions.{IsOpenAt};
 use crate::known_front::KnownFront;
 use crate::messages::outcome_message::OutcomeMessage;
 use crate::messages::reply::CommitReply;
-use crate::name::ClusterName;
+use crate::name::DatabaseName;
 use crate::receipt::Receipt;
 use crate::session_state::SessionState;
 use crate::session_state::absent::shows;
@@ -62,7 +62,7 @@ fn plain_reason(why: Refusal) -> Refusal
 
 // The points at which the transaction conflicts that the message is of, and none where it isn't refused for that. It
 // takes no memory.
-fn conflict_of<B: ClusterName>(alloc: Global, message: OutcomeMessage<B>, why: Refusal) -> RangeSet
+fn conflict_of<B: DatabaseName>(alloc: Global, message: OutcomeMessage<B>, why: Refusal) -> RangeSet
     ensures conflicts { why ≡ NotCommitted → result ≡ message.conflict }
     ensures nowhere { (why ≡ NotCommitted → ⊥) → result ≡ [] }
 {
@@ -75,7 +75,7 @@ fn conflict_of<B: ClusterName>(alloc: Global, message: OutcomeMessage<B>, why: R
     }
 }
 
-impl<B: ClusterName> SessionState<B> {
+impl<B: DatabaseName> SessionState<B> {
     /// Has the receipt of a transaction that it finished, which wrote nothing: the mark is no less than the version
     /// that it read at. It takes no memory.
     pub(crate) fn acknowledge(&mut self, receipt: Receipt<B>) -> Receipt<B>

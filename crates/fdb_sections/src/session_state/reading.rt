@@ -14,7 +14,7 @@ ghost use Rattle.fdb_sections.specs.Reading.{HasRead, own_writes_decide, Refused
 ghost use Rattle.fdb_sections.specs.ShardViews.{run_of};
 
 use crate::known_front::KnownFront;
-use crate::name::ClusterName;
+use crate::name::DatabaseName;
 use crate::roles::shard::ShardAt;
 use crate::roles::shard::lent_shards::LentShards;
 use crate::roles::shard::reader::Reader;
@@ -24,7 +24,7 @@ use bytes::Bytes;
 use fdb_keys::{Items, Key, KeyRange, Refusal};
 use std::alloc::Global;
 
-impl<B: ClusterName> SessionState<B> {
+impl<B: DatabaseName> SessionState<B> {
     /// Whether the open transaction's own writes decide the key: then a read of the key asks no shard. False where none
     /// is open. It takes no memory, and O(log n) time for n keys and ranges that they hold.
     pub fn decides(&self, key: &Key) -> bool

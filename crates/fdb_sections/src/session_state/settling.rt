@@ -17,7 +17,7 @@ ghost use Rattle.fdb_sections.specs.Sessions.{longer, seeing, with_current, IsOp
 
 use crate::known_front::KnownFront;
 use crate::messages::outcome_message::OutcomeMessage;
-use crate::name::ClusterName;
+use crate::name::DatabaseName;
 use crate::receipt::Receipt;
 use crate::session_state::submitted::Submitted;
 use crate::session_state::{SessionState, share_longer};
@@ -29,7 +29,7 @@ use std::mem;
 
 /// What a session's transaction comes to that is to commit.
 #[derive(Drop)]
-pub(crate) enum Ended<B: ClusterName> {
+pub(crate) enum Ended<B: DatabaseName> {
     /// It wrote nothing, and has its receipt.
     Acknowledged(Receipt<B>),
     /// It is submitted, as this request.
@@ -37,7 +37,10 @@ pub(crate) enum Ended<B: ClusterName> {
 }
 
 // What the transaction comes to on the front, on which it has its receipt if it wrote nothing. A refusal hands it back.
-fn end_on<B: ClusterName>(front: &KnownFront<B>, transaction: Txn) -> Result<Ended<B>, Refused<Txn>>
+fn end_on<B: DatabaseName>(
+    front: &KnownFront<B>,
+    transaction: Txn,
+) -> Result<Ended<B>, Refused<Txn>>
     requires { is_read_only transaction ≡ true
         → IsReceipt B.config.resolver_splits (read_only_receipt front.now transaction) }
     ensures ended { IfOk result (λ ended. IsEnded front.now transaction ended × (submit_fault transaction ≡ None)) }
@@ -54,7 +57,7 @@ fn end_on<B: ClusterName>(front: &KnownFront<B>, transaction: Txn) -> Result<End
 }
 
 // The receipt of a transaction that wrote nothing, at its read version on the front.
-fn acknowledge_on<B: ClusterName>(
+fn acknowledge_on<B: DatabaseName>(
     front: &KnownFront<B>,
     transaction: Txn,
 ) -> Result<Ended<B>, Refused<Txn>>
@@ -76,7 +79,7 @@ fn acknowledge_on<B: ClusterName>(
 }
 
 // What stands at the place that the message tells of, if there is any.
-fn transaction_told<B: ClusterName>(message: &OutcomeMessage<B>) -> Option<&Sealed>
+fn transaction_told<B: DatabaseName>(message: &OutcomeMessage<B>) -> Option<&Sealed>
     ensures { option_copied result ≡ transaction_told message.now }
 {
     let count = message.front.len();
@@ -90,7 +93,7 @@ fn transaction_told<B: ClusterName>(message: &OutcomeMessage<B>) -> Option<&Seal
 }
 
 // Whether the message is of what was submitted. It takes no memory.
-fn is_told_of<B: ClusterName>(message: &OutcomeMessage<B>, submitted: &Submitted) -> bool
+fn is_told_of<B: DatabaseName>(message: &OutcomeMessage<B>, submitted: &Submitted) -> bool
     ensures { IsTrue result ↔ IsToldOf message.now submitted.now.transaction }
 {
     // A spot has 32 bits for the number of the entry.
@@ -105,7 +108,7 @@ fn is_told_of<B: ClusterName>(message: &OutcomeMessage<B>, submitted: &Submitted
 
 // The longer of both fronts twice, where the message is of the transaction. Refused as `CommitUnknownResult` where it
 // isn't, and as `NoMemory`.
-fn fronts_with<B: ClusterName>(
+fn fronts_with<B: DatabaseName>(
     own: &KnownFront<B>,
     message: &OutcomeMessage<B>,
     submitted: &Submitted,
@@ -125,7 +128,7 @@ fn fronts_with<B: ClusterName>(
 }
 
 // The spot that the message tells of where it is committed, else why it isn't.
-fn spot_told<B: ClusterName>(message: &OutcomeMessage<B>) -> Result<Spot, Refusal>
+fn spot_told<B: DatabaseName>(message: &OutcomeMessage<B>) -> Result<Spot, Refusal>
     requires { length message.now.front ≤ 2 ^ 32 }
     ensures answers { AnswersExactly result (settle_fault message.now.outcome) (λ spot. spot ≡ spot_told message.now) }
     ensures told { IsOutcome B.config.resolver_splits message.now }
@@ -146,7 +149,7 @@ fn spot_told<B: ClusterName>(message: &OutcomeMessage<B>) -> Result<Spot, Refusa
     }
 }
 
-impl<B: ClusterName> SessionState<B> {
+impl<B: DatabaseName> SessionState<B> {
     /// Sees a front of the database: the front becomes the longer of both. Refused only as `NoMemory`, and then nothing
     /// changes. It takes O(1) time.
     pub(crate) fn see(&mut self, front: &KnownFront<B>) -> Result<(), Refusal>

@@ -14,7 +14,7 @@ no-fault log logs tags within few some most =
 
 pub returns-in_err-at : goal.returns-in_err-at
 returns-in_err-at g c =
-    let legal = legal-from g.B.ClusterName.config c.requires.legal in
+    let legal = legal-from g.B.DatabaseName.config c.requires.legal in
     let p = err_from_is_err_and c.from_residual-in_err-at.result c.from_residual-in_err-at.ensures.1 in
     rw (p.1, p.2)
     (lacks-memory (config_fault c.loop-number.number c.args.logs c.args.tags) _ _

@@ -15,7 +15,7 @@ returns-then-len-clause-begins g c =
 
 pub returns-then-len-clause-reaches : goal.returns-then-len-clause-reaches
 returns-then-len-clause-reaches g c =
-    let resolvers = suc (length g.B.ClusterName.config.resolver_splits) in
+    let resolvers = suc (length g.B.DatabaseName.config.resolver_splits) in
     let fewer : length c.args.own.now ≤ length c.args.theirs.now =
     omega (arith, c.if-len.true, c.len.ensures, c.len-2.ensures) in
     where-given c.share.result c.args.theirs.now
@@ -36,7 +36,7 @@ returns-else-len-clause-begins g c =
 
 pub returns-else-len-clause-reaches : goal.returns-else-len-clause-reaches
 returns-else-len-clause-reaches g c =
-    let resolvers = suc (length g.B.ClusterName.config.resolver_splits) in
+    let resolvers = suc (length g.B.DatabaseName.config.resolver_splits) in
     let more : length c.args.theirs.now ≤ length c.args.own.now =
     omega (arith, c.if-len.false, c.len.ensures, c.len-2.ensures) in
     where-given c.share-else-len.result c.args.own.now

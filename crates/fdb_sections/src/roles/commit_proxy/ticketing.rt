@@ -10,14 +10,14 @@ ghost use Rattle.fdb_roles.specs.Entries.{dated_moves};
 ghost use Rattle.fdb_sections.specs.Ticketing.{is_of_entry, IsTicketOf, are_left};
 
 use crate::known_front::KnownFront;
-use crate::name::ClusterName;
+use crate::name::DatabaseName;
 use fdb_sequencer::{Dated, Ticket};
 use fdb_txn::{Entry, Sealed};
 
 /// Whether the ticket is that of the last entry of the front, which has the batch, and tells the moves of the entries
 /// behind the own front. It takes no memory, and O(n) time for n ranges and mutations of the batch, moves of the
 /// ticket, and entries behind the own front.
-pub(crate) fn is_ticket_of<B: ClusterName>(
+pub(crate) fn is_ticket_of<B: DatabaseName>(
     own: &KnownFront<B>,
     front: &KnownFront<B>,
     batch: &[Sealed],
@@ -49,7 +49,7 @@ fn is_of_entry(ticket: &Ticket, number: usize, entry: &Entry, batch: &[Sealed]) 
 }
 
 // Whether these are the moves of the front's entries from the number on.
-fn are_moves_from<B: ClusterName>(front: &KnownFront<B>, begin: usize, moves: &[Dated]) -> bool
+fn are_moves_from<B: DatabaseName>(front: &KnownFront<B>, begin: usize, moves: &[Dated]) -> bool
     ensures { result ≡ pointwise dated_eq moves.now (dated_moves (drop begin front.now)) }
 {
     let mut rest = moves;

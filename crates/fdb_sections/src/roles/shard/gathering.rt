@@ -10,7 +10,7 @@ ghost use Rattle.fdb_sections.specs.Gathering.{part_fault, take_fault, page_faul
 ghost use Rattle.fdb_sections.specs.ShardViews.{run_of};
 
 use crate::known_front::KnownFront;
-use crate::name::ClusterName;
+use crate::name::DatabaseName;
 use crate::roles::shard::ShardAt;
 use crate::roles::shard::reader::{Reader, left_of};
 use bytes::Bytes;
@@ -87,7 +87,7 @@ fn part_behind(
 
 // What of the part is read behind the shard. Refused where the shard doesn't hold what is read first of it, and where
 // it doesn't serve the version.
-fn check_part<B: ClusterName>(
+fn check_part<B: DatabaseName>(
     alloc: Global,
     version: u64,
     part: &KeyRange,
@@ -116,7 +116,7 @@ fn unless_full(left: Option<KeyRange>, wanted: u32, count: usize) -> Option<KeyR
 
 // Adds to the pairs what the shard has of the part, as many as are gathered at most for the limit, and gives what is to
 // be looked at then. Refused as `check_part` is, and as `NoMemory`; then the pairs are as they were.
-fn take_part<B: ClusterName>(
+fn take_part<B: DatabaseName>(
     reader: &Reader<'_, B>,
     pairs: &mut Vec<(Key, Bytes)>,
     part: &KeyRange,
@@ -141,7 +141,7 @@ fn take_part<B: ClusterName>(
 ///
 /// Contracts see what was asked for, and the rest of the range that is to be looked at yet, if more pairs are wanted.
 #[derive(Drop)]
-pub struct Gathering<'a, B: ClusterName> {
+pub struct Gathering<'a, B: DatabaseName> {
     reader: Reader<'a, B>,
     range: &'a KeyRange,
     limit: u32,
@@ -150,7 +150,7 @@ pub struct Gathering<'a, B: ClusterName> {
     pairs: Vec<(Key, Bytes)>,
 }
 
-impl<'a, B: ClusterName> Model for Gathering<'a, B> {
+impl<'a, B: DatabaseName> Model for Gathering<'a, B> {
     ghost use Rattle.fdb_sections.specs.Gathering.{Gathering as Seen, IsGathered};
 
     ghost Value = { Seen };
@@ -174,7 +174,7 @@ impl<'a, B: ClusterName> Model for Gathering<'a, B> {
     }) it.pairs.items };
 }
 
-impl<'a, B: ClusterName> Gathering<'a, B> {
+impl<'a, B: DatabaseName> Gathering<'a, B> {
     /// Nothing was gathered yet, for a page of the range in the order of keys, or in the reverse order: of so many
     /// pairs at most, but of no more than 256, and of 256 where the limit is 0. Refused only as `NoMemory`. It takes
     /// O(1) time, and copies no byte of the range.

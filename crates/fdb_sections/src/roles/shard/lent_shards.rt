@@ -7,7 +7,7 @@ ghost use Rattle.fdb_sections.specs.LentShards.{lent_shards, lending_fault, next
 ghost use Rattle.fdb_sections.specs.ShardViews.{run_of};
 
 use crate::known_front::KnownFront;
-use crate::name::ClusterName;
+use crate::name::DatabaseName;
 use crate::roles::shard::ShardAt;
 use crate::roles::shard::reader::Reader;
 use bytes::Bytes;
@@ -18,7 +18,7 @@ use std::marker::Model;
 
 // Refused where the shard doesn't begin at the point, or has no key from there on, and where it doesn't serve the
 // version.
-fn check_next<B: ClusterName>(at: &ShardAt<B>, version: u64, from: &[u8]) -> Result<(), Refusal>
+fn check_next<B: DatabaseName>(at: &ShardAt<B>, version: u64, from: &[u8]) -> Result<(), Refusal>
     ensures { AnswersExactly result (next_fault version from.now at.now) (λ _. ⊤) }
 {
     let range = at.range();
@@ -30,7 +30,7 @@ fn check_next<B: ClusterName>(at: &ShardAt<B>, version: u64, from: &[u8]) -> Res
 
 // Refused where the shards don't hold what comes from the one point on up to the other one, each from where the one
 // before it ends, and where one of them doesn't serve the version.
-fn check_row<B: ClusterName>(
+fn check_row<B: DatabaseName>(
     shards: &[&ShardAt<B>],
     version: u64,
     from: &[u8],
@@ -50,7 +50,7 @@ fn check_row<B: ClusterName>(
 }
 
 // Where the first of the shards begins, if it holds the begin of the range, and else that.
-fn row_begin<'a, B: ClusterName>(shards: &'a [&'a ShardAt<B>], range: &'a KeyRange) -> &'a [u8]
+fn row_begin<'a, B: DatabaseName>(shards: &'a [&'a ShardAt<B>], range: &'a KeyRange) -> &'a [u8]
     ensures { result.now ≡ row_begin range.now (lent_shards shards.now) }
 {
     match shards {
@@ -70,13 +70,13 @@ fn row_begin<'a, B: ClusterName>(shards: &'a [&'a ShardAt<B>], range: &'a KeyRan
 /// Shards that hold a range together, lent to who reads them at a version: their answers are those of the serial map of
 /// the reader's front.
 #[derive(Drop)]
-pub(crate) struct LentShards<'a, B: ClusterName> {
+pub(crate) struct LentShards<'a, B: DatabaseName> {
     reader: Reader<'a, B>,
     range: &'a KeyRange,
     shards: &'a [&'a ShardAt<B>],
 }
 
-impl<'a, B: ClusterName> Model for LentShards<'a, B> {
+impl<'a, B: DatabaseName> Model for LentShards<'a, B> {
     ghost use Rattle.fdb_sections.specs.LentShards.{LentShards as Seen, lent_shards, AreInARow, HoldAll};
 
     ghost Value = { Seen };
@@ -91,7 +91,7 @@ impl<'a, B: ClusterName> Model for LentShards<'a, B> {
         × HoldAll it.range.now (lent_shards it.shards.now) };
 }
 
-impl<'a, B: ClusterName> LentShards<'a, B> {
+impl<'a, B: DatabaseName> LentShards<'a, B> {
     /// The shards, each of which begins where the one before it ends, lent to the reader of the range. Refused as
     /// `Unknown` where the first one doesn't hold the range's begin, and where one doesn't begin where the one before
     /// it ends; as `Failed` where memory ran out in one, as `TransactionTooOld` where the version is below its floor
@@ -147,7 +147,7 @@ impl<'a, B: ClusterName> LentShards<'a, B> {
 }
 
 /// What lies outside of the range is refused as `KeyOutsideLegalRange`.
-impl<'a, B: ClusterName> Snapshot for LentShards<'a, B> {
+impl<'a, B: DatabaseName> Snapshot for LentShards<'a, B> {
     ghost use Rattle.fdb_sections.specs.LentShards.{key_fault, range_fault as range_fault_of, part_lent};
     ghost use Rattle.fdb_sections.specs.ShardViews.{run_of};
 

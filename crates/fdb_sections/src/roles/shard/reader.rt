@@ -10,7 +10,7 @@ ghost use Rattle.fdb_sections.specs.LentShards.{lent_shards, is_held, pairs_at, 
 ghost use Rattle.fdb_sections.specs.ShardViews.{run_of};
 
 use crate::known_front::KnownFront;
-use crate::name::ClusterName;
+use crate::name::DatabaseName;
 use crate::roles::shard::ShardAt;
 use crate::roles::shard::view::ShardView;
 use bytes::Bytes;
@@ -35,14 +35,14 @@ pub(crate) fn left_of(wanted: u32, count: usize) -> Option<u32>
 
 /// Who reads at a version that its front reaches: what it is answered is that front's serial map.
 #[derive(Drop)]
-pub(crate) struct Reader<'a, B: ClusterName> {
+pub(crate) struct Reader<'a, B: DatabaseName> {
     alloc: Global,
     version: u64,
     front: &'a KnownFront<B>,
     ghost reached: { version ≤ last_version front.now },
 }
 
-impl<'a, B: ClusterName> Reader<'a, B> {
+impl<'a, B: DatabaseName> Reader<'a, B> {
     /// It takes no memory, and O(1) time.
     pub(crate) fn new(alloc: Global, version: u64, front: &'a KnownFront<B>) -> Self
         requires { version ≤ last_version front.now }
@@ -191,7 +191,7 @@ impl<'a, B: ClusterName> Reader<'a, B> {
 }
 
 /// A reader without a shard: all is refused as `KeyOutsideLegalRange`.
-impl<'a, B: ClusterName> Snapshot for Reader<'a, B> {
+impl<'a, B: DatabaseName> Snapshot for Reader<'a, B> {
     ghost use Rattle.std.specs.Prelude.{Some};
     ghost use Rattle.fdb_keys.specs.declared.refusal.Refusal.TheVariants.{KeyOutsideLegalRange};
     ghost use Rattle.fdb_sections.specs.ShardViews.{run_of};

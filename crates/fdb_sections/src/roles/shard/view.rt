@@ -6,7 +6,7 @@ ghost use Rattle.fdb_txn.specs.book.Book.{last_version};
 ghost use Rattle.fdb_sections.specs.ShardViews.{range_fault, run_map};
 
 use crate::known_front::KnownFront;
-use crate::name::ClusterName;
+use crate::name::DatabaseName;
 use crate::roles::shard::ShardAt;
 use bytes::Bytes;
 use fdb_client::{Page, Snapshot};
@@ -15,13 +15,13 @@ use std::marker::Model;
 
 /// A shard, read at a version by who has seen the front: its answers are those of that front's serial map.
 #[derive(Drop)]
-pub(crate) struct ShardView<'a, B: ClusterName> {
+pub(crate) struct ShardView<'a, B: DatabaseName> {
     version: u64,
     front: &'a KnownFront<B>,
     at: &'a ShardAt<B>,
 }
 
-impl<'a, B: ClusterName> Model for ShardView<'a, B> {
+impl<'a, B: DatabaseName> Model for ShardView<'a, B> {
     ghost use Rattle.fdb_sections.specs.ShardViews.{ShardView as View, HasTheRunOf};
 
     ghost Value = { View };
@@ -31,7 +31,7 @@ impl<'a, B: ClusterName> Model for ShardView<'a, B> {
     ghost invariant = { λ it. HasTheRunOf B.config it.version it.at.now.front it.front.now };
 }
 
-impl<'a, B: ClusterName> ShardView<'a, B> {
+impl<'a, B: DatabaseName> ShardView<'a, B> {
     /// The shard read at a version that the reader's front reaches. It takes no memory.
     pub(crate) fn new(version: u64, front: &'a KnownFront<B>, at: &'a ShardAt<B>) -> Self
         requires { version ≤ last_version front.now }
@@ -63,7 +63,7 @@ impl<'a, B: ClusterName> ShardView<'a, B> {
 /// A key that the shard doesn't hold is refused as `KeyOutsideLegalRange`, and so is a range of which it holds a part
 /// alone; a version below its floor as `TransactionTooOld`, one above its version as `FutureVersion`; and all as
 /// `Failed` once memory ran out in it, before any of these.
-impl<'a, B: ClusterName> Snapshot for ShardView<'a, B> {
+impl<'a, B: DatabaseName> Snapshot for ShardView<'a, B> {
     ghost use Rattle.fdb_sections.specs.ShardViews.{key_fault, range_fault as range_fault_of, run_map, part_served};
 
     ghost at = { λ view. view.version };

@@ -9,7 +9,7 @@ use Rattle.fdb_runtime.proofs.session.Session.commit.Goals as goal
 
 pub returns-in-Ok-Acknowledged : goal.returns-in-Ok-Acknowledged
 returns-in-Ok-Acknowledged g c =
-    let config = g.B.ClusterName.config in
+    let config = g.B.DatabaseName.config in
     let given = c.in-Ok-Acknowledged in
     let new = c.commit.new.self in
     let asks =
@@ -18,12 +18,12 @@ returns-in-Ok-Acknowledged g c =
 
 pub returns-in-Ok-ToCommit : goal.returns-in-Ok-ToCommit
 returns-in-Ok-ToCommit g c =
-    let config = g.B.ClusterName.config in
+    let config = g.B.DatabaseName.config in
     let given = c.in-Ok-ToCommit in
     let middle = c.commit.new.self in
     let asks =
     subst (λ (it : Asked g.row.B.Denot). Asks config c.self.inside.client (Ok it) middle) given.field-0-is
     given.ensures in
     subst (λ (it : Session). CommitAnswers config it c.settle.result c.settle.new.self.session) c.self.view_is
-    (settled g.row.B.Denot config c.self.inside.client middle c.settle.new.self given.sealed c.settle.result asks
+    (settled g.row.B.Denot config c.self.inside.client middle c.settle.new.self given.asked c.settle.result asks
     c.settle.ensures.ends).1

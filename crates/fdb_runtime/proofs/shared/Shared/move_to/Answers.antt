@@ -20,5 +20,5 @@ answered false false (Err why) P told = inl told
 pub returns : goal.returns
 returns g c =
     let state = c.deref_mut.result.now.state in
-    answered (is_bad_move g.B.ClusterName.config c.args.one_move) (nat_le move_limit state.made) c.move_to.result _
+    answered (is_bad_move g.B.DatabaseName.config c.args.one_move) (nat_le move_limit state.made) c.move_to.result _
     (rw c.move_to.ensures.resolvers at c.move_to.ensures.answers)

@@ -11,7 +11,7 @@ use Rattle.fdb_sections.proofs.client.Client.commit.Goals as goal
 
 pub returns-in-Ok-Acknowledged : goal.returns-in-Ok-Acknowledged
 returns-in-Ok-Acknowledged g c =
-    let config = g.B.ClusterName.config in
+    let config = g.B.DatabaseName.config in
     let own = c.self.inside.state in
     let new = c.acknowledge.new.self in
     let ended = c.in-Ok-Acknowledged in

@@ -9,6 +9,6 @@ returns-clause-fault g c =
 
 pub returns-clause-answered : goal.returns-clause-answered
 returns-clause-answered g c =
-    rw (← c.self.view_is) (range-read-on g.B.ClusterName.config.resolver_splits c.self.inside.state
+    rw (← c.self.view_is) (range-read-on g.B.DatabaseName.config.resolver_splits c.self.inside.state
     c.get_range.new.self (g.S.Snapshot.map c.args.snapshot.now) c.get_range.result c.args.range.now c.args.limit
     c.args.reverse c.args.is_snapshot (rw (← c.self.view_is) at c.requires.run) c.get_range.ensures.given)

@@ -10,7 +10,7 @@ use Rattle.fdb_sections.proofs.session_state.SessionState.get_range.Goals.{in-So
 
 pub invariant_of-self : goal.invariant_of-self
 invariant_of-self g c =
-    let splits = g.B.ClusterName.config.resolver_splits in
+    let splits = g.B.DatabaseName.config.resolver_splits in
     let own = c.self.inside in
     let there = g.S.Snapshot.map c.args.snapshot.now in
     elim c.match-self.branch [

@@ -45,7 +45,7 @@ has-read config (Some transcript) old new own shared (Ok pairs) range limit reve
 pub returns-clause-answered : goal.returns-clause-answered
 returns-clause-answered g c =
     let shared : ℕ × List Entry = (c.in_ok-version.version, c.in_ok-version.front) in
-    has-read g.B.ClusterName.config c.args.self.now.current c.args.self.now c.get_range.new.self c.args.self.now.front
+    has-read g.B.DatabaseName.config c.args.self.now.current c.args.self.now c.get_range.new.self c.args.self.now.front
     shared c.get_range.result c.args.range.now c.args.limit c.args.reverse c.args.is_snapshot
     c.in_ok-version.ensures.answers
     (rw (c.in_ok-lent.ensures.value, c.new-reader.ensures.version, c.new-reader.ensures.front)
@@ -62,7 +62,7 @@ returns-clause-fault g c =
     ∙ (given-fault (lending_fault c.new-reader.result.version range shards) lent (λ _. ⊤)
     c.in_ok-lent.ensures.answers).0 in
     range-refused current c.get_range.result _ _ _ _ (λ transcript given. ⊤)
-    (lent-faults g.B.ClusterName.config current (c.in_ok-version.version, c.in_ok-version.front) c.args.self.now.front
+    (lent-faults g.B.DatabaseName.config current (c.in_ok-version.version, c.in_ok-version.front) c.args.self.now.front
     lent range shards c.args.limit c.args.reverse none
     (ap (λ (it : LentShards). it.range) c.in_ok-lent.ensures.value)
     (ap (λ (it : LentShards). it.version) c.in_ok-lent.ensures.value ∙ c.new-reader.ensures.version)

@@ -6,7 +6,7 @@ use Rattle.fdb_sections.proofs.session_state.SessionState.learn.Goals as goal
 
 pub invariant_of-self : goal.invariant_of-self
 invariant_of-self g c =
-    let splits = g.B.ClusterName.config.resolver_splits in
+    let splits = g.B.DatabaseName.config.resolver_splits in
     let own = c.self.inside in
     let front = c.in_ok-front.front in
     let version : c.version-version.result ≤ last_version c.known_front.result.now =

@@ -5,7 +5,7 @@ use Rattle.fdb_sections.proofs.session_state.SessionState.see.Goals as goal
 
 pub invariant_of-self : goal.invariant_of-self
 invariant_of-self g c =
-    let splits = g.B.ClusterName.config.resolver_splits in
+    let splits = g.B.DatabaseName.config.resolver_splits in
     let own = c.self.inside in
     let front = c.in_ok-front.front in
     let mark : own.mark ≤ last_version front = omega (arith, c.self.invariant.0, c.in_ok-front.ensures.reaches.0) in

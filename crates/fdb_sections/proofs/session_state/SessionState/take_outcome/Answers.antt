@@ -11,7 +11,7 @@ use Rattle.fdb_sections.proofs.session_state.SessionState.take_outcome.Goals as 
 
 pub invariant_of-self : goal.invariant_of-self
 invariant_of-self g c =
-    let splits = g.B.ClusterName.config.resolver_splits in
+    let splits = g.B.DatabaseName.config.resolver_splits in
     let own = c.self.inside in
     let front = c.in-Ok.front in
     let version : c.version.result ≡ last_version c.args.message.now.front =
@@ -30,7 +30,7 @@ invariant_of-self g c =
 
 pub invariant_of-self-in-Err-told : goal.invariant_of-self-in-Err-told
 invariant_of-self-in-Err-told g c =
-    let splits = g.B.ClusterName.config.resolver_splits in
+    let splits = g.B.DatabaseName.config.resolver_splits in
     let own = c.self.inside in
     let front = c.in-Ok.front in
     let mark : own.mark ≤ last_version front = omega (arith, c.self.invariant.0, c.in-Ok.ensures.reaches.0) in
@@ -39,7 +39,7 @@ invariant_of-self-in-Err-told g c =
 
 pub returns-in-Ok-told-clause-given : goal.returns-in-Ok-told-clause-given
 returns-in-Ok-told-clause-given g c =
-    let splits = g.B.ClusterName.config.resolver_splits in
+    let splits = g.B.DatabaseName.config.resolver_splits in
     let own = c.self.inside in
     let front = c.in-Ok.front in
     let told = c.args.message.now in
@@ -83,7 +83,7 @@ returns-in-Err-clause-answers g c =
 
 pub returns-in-Err-clause-turned : goal.returns-in-Err-clause-turned
 returns-in-Err-clause-turned g c =
-    let splits = g.B.ClusterName.config.resolver_splits in
+    let splits = g.B.DatabaseName.config.resolver_splits in
     let told = c.args.message.now in
     inr (turned-down splits c.in-Ok.front told c.args.submitted.now.transaction c.know_entries.ensures
     c.in-Ok.ensures.begins.1 c.in-Err.ensures.told c.in-Ok.ensures.told c.in-Err.why

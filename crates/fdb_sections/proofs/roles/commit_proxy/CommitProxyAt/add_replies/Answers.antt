@@ -11,14 +11,14 @@ pub loop-place-init : goal.loop-place-init
 loop-place-init g c = record {
   goes_on = search rules;
   ends = search rules;
-  left = outcomes-start g.B.ClusterName.config c.args.self.now c.args.self.now _ _ _ c.requires.by_rule refl (cc) (cc);
+  left = outcomes-start g.B.DatabaseName.config c.args.self.now c.args.self.now _ _ _ c.requires.by_rule refl (cc) (cc);
   told = told-start c.args.self.now.front _ _ _ _ (cc) (cc) c.requires.nothing;
 }
 
 pub reply_of-reply-requires-clause-by_rule : goal.reply_of-reply-requires-clause-by_rule
 reply_of-reply-requires-clause-by_rule g c =
     let step = rw c.in-Some.is at c.next.ensures.steps in
-    let config = g.B.ClusterName.config in
+    let config = g.B.DatabaseName.config in
     let at = c.args.self.now in
     rw step.1 (outcome-first config at.front at.conflicts _ _ _ (c.in-Some._id, c.in-Some.outcome) step.0.0
     c.loop-place.invariant.left)
@@ -26,7 +26,7 @@ reply_of-reply-requires-clause-by_rule g c =
 pub loop-place-preserved : goal.loop-place-preserved
 loop-place-preserved g c =
     let step = rw c.in-Some.is at c.next.ensures.steps in
-    let config = g.B.ClusterName.config in
+    let config = g.B.DatabaseName.config in
     let left =
     outcomes-rest config c.args.self.now.front c.args.self.now.conflicts _ _ _ (c.in-Some._id, c.in-Some.outcome)
     step.0.0 c.loop-place.invariant.left in

@@ -5,13 +5,13 @@ use Rattle.fdb_sections.proofs.roles.commit_proxy.CommitProxyAt.done.Goals as go
 
 pub invariant_of-self : goal.invariant_of-self
 invariant_of-self g c =
-    (finishes g.B.ClusterName.config c.self.inside.front c.self.inside.conflicts c.self.inside.state.proxy
+    (finishes g.B.DatabaseName.config c.self.inside.front c.self.inside.conflicts c.self.inside.state.proxy
     c.done.new.self.proxy c.done.result c.self.invariant c.done.ensures.answers c.done.ensures.refused).1
 
 pub returns-clause-told : goal.returns-clause-told
 returns-clause-told g c =
     subst (λ (at : CommitProxyAtFront). IfOk c.done.result
-    (AreOutcomes g.B.ClusterName.config at.front at.conflicts))
+    (AreOutcomes g.B.DatabaseName.config at.front at.conflicts))
     c.self.view_is
-    (finishes g.B.ClusterName.config c.self.inside.front c.self.inside.conflicts c.self.inside.state.proxy
+    (finishes g.B.DatabaseName.config c.self.inside.front c.self.inside.conflicts c.self.inside.state.proxy
     c.done.new.self.proxy c.done.result c.self.invariant c.done.ensures.answers c.done.ensures.refused).0

@@ -18,7 +18,7 @@ loop-message-preserved g c =
     let all = sent_messages c.args.self.now.front (messages_of c.args.self.now.state.proxy) in
     let sent : LogMsg → LogMsgAtFront = λ it. record { front = c.args.self.now.front; message = it } in
     let is_own : LogMsg → Type 0 =
-    λ it. IsLastMessage g.B.ClusterName.config (record { front = c.args.self.now.front; message = it }) in
+    λ it. IsLastMessage g.B.DatabaseName.config (record { front = c.args.self.now.front; message = it }) in
     record {
       goes_on = tt;
       ends = tt;

@@ -9,7 +9,7 @@ abbrev pub invariant-loop-message : goal.invariant-loop-message
 invariant-loop-message g l = record {
   goes_on : (goal.iterator-loop-message g).can_next l.message-iterator;
   ends : (goal.iterator-loop-message g).is_finite l.message-iterator;
-  left : AreLastMessages g.B.ClusterName.config l.self.front (into_iter_items l.message-iterator);
+  left : AreLastMessages g.B.DatabaseName.config l.self.front (into_iter_items l.message-iterator);
   made : l.messages.items ++ sent_messages l.self.front (into_iter_items l.message-iterator)
       ≡ sent_messages l.self.front (messages_of l.self.state.proxy);
 }

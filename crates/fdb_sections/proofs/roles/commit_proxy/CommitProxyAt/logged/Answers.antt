@@ -3,5 +3,5 @@ use Rattle.fdb_sections.proofs.roles.commit_proxy.CommitProxyAt.logged.Goals as 
 
 pub invariant_of-self : goal.invariant_of-self
 invariant_of-self g c =
-    logged-or-stays g.B.ClusterName.config c.self.inside.front c.self.inside.conflicts c.self.inside.state
+    logged-or-stays g.B.DatabaseName.config c.self.inside.front c.self.inside.conflicts c.self.inside.state
     c.logged.new.self c.ack.result c.logged.result c.logged.ensures.answers c.logged.ensures.refused c.self.invariant

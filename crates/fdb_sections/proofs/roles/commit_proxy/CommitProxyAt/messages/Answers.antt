@@ -5,7 +5,7 @@ use Rattle.fdb_sections.proofs.roles.commit_proxy.CommitProxyAt.messages.Goals a
 
 pub returns-clause-sent : goal.returns-clause-sent
 returns-clause-sent g c =
-    subst (λ (at : CommitProxyAtFront). IfOk c.messages.result (AreLastMessages g.B.ClusterName.config at.front))
+    subst (λ (at : CommitProxyAtFront). IfOk c.messages.result (AreLastMessages g.B.DatabaseName.config at.front))
     c.self.view_is
-    (sends-messages g.B.ClusterName.config c.self.inside.front c.self.inside.state.proxy c.messages.result
+    (sends-messages g.B.DatabaseName.config c.self.inside.front c.self.inside.state.proxy c.messages.result
     c.self.invariant.0 c.messages.ensures)

@@ -17,7 +17,7 @@ pub invariant_of-result : goal.invariant_of-result
 invariant_of-result g c =
     let told = answers-fault (new_fault c.args.index c.args.config.now) c.in_ok-state.state _ c.in_ok-state.ensures in
     let given = c.in_ok-state-2.ensures.given in
-    begins g.B.ClusterName.config c.args.config.now c.args.index c.in_ok-state-2.front c.new-2.result
+    begins g.B.DatabaseName.config c.args.config.now c.args.index c.in_ok-state-2.front c.new-2.result
     c.in_ok-state-2.state.proxy
     (rw given.1 at c.empty.ensures) c.requires
     (subst (λ (state : ProxyWithRoom). IsNewProxy c.args.index c.args.config.now state.proxy) (sym given.0) told.1)

@@ -18,7 +18,7 @@ loop-part-preserved g c =
     let all = sent_parts c.args.self.now.front (parts_in c.args.self.now.state.proxy.stage) in
     let sent : Part → PartAtFront = λ it. record { front = c.args.self.now.front; part = it } in
     let is_own : Part → Type 0 =
-    λ it. IsLastPart g.B.ClusterName.config.resolver_splits (record { front = c.args.self.now.front; part = it }) in
+    λ it. IsLastPart g.B.DatabaseName.config.resolver_splits (record { front = c.args.self.now.front; part = it }) in
     record {
       goes_on = tt;
       ends = tt;

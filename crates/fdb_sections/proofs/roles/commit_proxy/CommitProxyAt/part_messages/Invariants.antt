@@ -9,7 +9,7 @@ abbrev pub invariant-loop-part : goal.invariant-loop-part
 invariant-loop-part g l = record {
   goes_on : (goal.iterator-loop-part g).can_next l.part-iterator;
   ends : (goal.iterator-loop-part g).is_finite l.part-iterator;
-  left : AreLastParts g.B.ClusterName.config l.self.front (into_iter_items l.part-iterator);
+  left : AreLastParts g.B.DatabaseName.config l.self.front (into_iter_items l.part-iterator);
   made : l.messages.items ++ sent_parts l.self.front (into_iter_items l.part-iterator)
       ≡ sent_parts l.self.front (parts_in l.self.state.proxy.stage);
 }

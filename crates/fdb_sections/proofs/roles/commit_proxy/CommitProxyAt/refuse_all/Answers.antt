@@ -3,5 +3,5 @@ use Rattle.fdb_sections.proofs.roles.commit_proxy.CommitProxyAt.refuse_all.Goals
 
 pub invariant_of-self : goal.invariant_of-self
 invariant_of-self g c =
-    drops g.B.ClusterName.config c.self.inside.front c.self.inside.conflicts c.self.inside.state.proxy
+    drops g.B.DatabaseName.config c.self.inside.front c.self.inside.conflicts c.self.inside.state.proxy
     c.refuse_all.new.self.proxy c.refuse_all.ensures.left c.self.invariant

@@ -3,5 +3,5 @@ use Rattle.fdb_sections.proofs.roles.commit_proxy.CommitProxyAt.seal.Goals as go
 
 pub invariant_of-self : goal.invariant_of-self
 invariant_of-self g c =
-    seals-or-stays g.B.ClusterName.config c.self.inside.front c.self.inside.conflicts c.self.inside.state
+    seals-or-stays g.B.DatabaseName.config c.self.inside.front c.self.inside.conflicts c.self.inside.state
     c.seal.new.self c.seal.result c.seal.ensures.answers c.seal.ensures.refused c.self.invariant

@@ -6,7 +6,7 @@ pub invariant_of-self : goal.invariant_of-self
 invariant_of-self g c =
     let count : length c.message.inside.front ≡ length c.self.inside.front =
     omega (arith, c.if-len.false, c.len.ensures, c.len-2.ensures) in
-    takes-verdicts-or-stays g.B.ClusterName.config c.self.inside.front c.self.inside.conflicts c.self.inside.state
+    takes-verdicts-or-stays g.B.DatabaseName.config c.self.inside.front c.self.inside.conflicts c.self.inside.state
     c.verdict.new.self (record { front = c.message.inside.front; verdicts = c.message.inside.verdicts })
     c.verdict.result c.self.invariant c.message.invariant
     (same-length c.self.inside.front c.message.inside.front count

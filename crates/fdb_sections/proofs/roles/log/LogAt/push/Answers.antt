@@ -12,11 +12,11 @@ use Rattle.fdb_sections.proofs.LogLemmas.{left-by-push, acknowledges}
 use Rattle.fdb_sections.proofs.roles.log.LogAt.push.Goals as goal
 
 pub push-requires : goal.push-requires
-push-requires g c = rises g.B.ClusterName.config _ c.message.invariant c.check_next.ensures.entries
+push-requires g c = rises g.B.DatabaseName.config _ c.message.invariant c.check_next.ensures.entries
 
 pub invariant_of-self : goal.invariant_of-self
 invariant_of-self g c =
-    (log-stays g.B.ClusterName.config c.self.inside.front c.self.inside.state c.push.new.self
+    (log-stays g.B.DatabaseName.config c.self.inside.front c.self.inside.state c.push.new.self
     (push_fault c.self.inside.state c.message.inside.message) c.in_err-ack.ensures.refused
     c.in_err-ack.ensures.failed c.self.invariant).0
 
@@ -35,13 +35,13 @@ returns-in_err-ack-clause-refused g c =
     where-refused c.from_residual-in_err-ack.result _
     (left-by-push (record { front = c.self.inside.front; state = c.self.inside.state }) c.args.self.now c.self.view_is
     c.push.new.self
-    (log-stays g.B.ClusterName.config c.self.inside.front c.self.inside.state c.push.new.self
+    (log-stays g.B.DatabaseName.config c.self.inside.front c.self.inside.state c.push.new.self
     (push_fault c.self.inside.state c.message.inside.message) c.in_err-ack.ensures.refused
     c.in_err-ack.ensures.failed c.self.invariant).1)
 
 pub invariant_of-result : goal.invariant_of-result
 invariant_of-result g c =
-    let config = g.B.ClusterName.config in
+    let config = g.B.DatabaseName.config in
     let state = c.self.inside.state in
     let message = c.message.inside.message in
     let more = (given-fault (front_fault c.self.inside.front c.message.inside.front) _
@@ -57,7 +57,7 @@ invariant_of-result g c =
 
 pub invariant_of-self-2 : goal.invariant_of-self-2
 invariant_of-self-2 g c =
-    let config = g.B.ClusterName.config in
+    let config = g.B.DatabaseName.config in
     let state = c.self.inside.state in
     let message = c.message.inside.message in
     let more = (given-fault (front_fault c.self.inside.front c.message.inside.front) _

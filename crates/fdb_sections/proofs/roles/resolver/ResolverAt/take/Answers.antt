@@ -12,11 +12,11 @@ use Rattle.fdb_sections.proofs.roles.resolver.ResolverAt.take.Goals as goal
 
 pub take-requires : goal.take-requires
 take-requires g c =
-    sent-part g.B.ClusterName.config.resolver_splits _ c.message.invariant c.check_next.ensures.entries
+    sent-part g.B.DatabaseName.config.resolver_splits _ c.message.invariant c.check_next.ensures.entries
 
 pub invariant_of-self : goal.invariant_of-self
 invariant_of-self g c =
-    (stays g.B.ClusterName.config.resolver_splits c.self.inside.front c.self.inside.state c.take.new.self
+    (stays g.B.DatabaseName.config.resolver_splits c.self.inside.front c.self.inside.state c.take.new.self
     (part_fault c.self.inside.state c.message.inside.part) c.in_err-verdicts.ensures.refused
     c.in_err-verdicts.ensures.failed c.self.invariant).0
 
@@ -35,13 +35,13 @@ returns-in_err-verdicts-clause-refused g c =
     where-refused c.from_residual-in_err-verdicts.result _
     (left-by-take (record { front = c.self.inside.front; state = c.self.inside.state }) c.args.self.now c.self.view_is
     c.take.new.self
-    (stays g.B.ClusterName.config.resolver_splits c.self.inside.front c.self.inside.state c.take.new.self
+    (stays g.B.DatabaseName.config.resolver_splits c.self.inside.front c.self.inside.state c.take.new.self
     (part_fault c.self.inside.state c.message.inside.part) c.in_err-verdicts.ensures.refused
     c.in_err-verdicts.ensures.failed c.self.invariant).1)
 
 pub invariant_of-result : goal.invariant_of-result
 invariant_of-result g c =
-    let splits = g.B.ClusterName.config.resolver_splits in
+    let splits = g.B.DatabaseName.config.resolver_splits in
     let state = c.self.inside.state in
     let more = (given-fault (front_fault c.self.inside.front c.message.inside.front) _
     (λ _. HasOneMore c.self.inside.front c.message.inside.front) c.in_ok-check_next.ensures.answers).1 in
@@ -56,7 +56,7 @@ invariant_of-result g c =
 
 pub invariant_of-self-2 : goal.invariant_of-self-2
 invariant_of-self-2 g c =
-    let splits = g.B.ClusterName.config.resolver_splits in
+    let splits = g.B.DatabaseName.config.resolver_splits in
     let state = c.self.inside.state in
     let more = (given-fault (front_fault c.self.inside.front c.message.inside.front) _
     (λ _. HasOneMore c.self.inside.front c.message.inside.front) c.in_ok-check_next.ensures.answers).1 in

@@ -3,5 +3,5 @@ use Rattle.fdb_sections.proofs.roles.sequencer.SequencerAt.set_window.Goals as g
 
 pub invariant_of-self : goal.invariant_of-self
 invariant_of-self g c =
-    windowed g.B.ClusterName.config c.self.inside.front c.args.window c.self.inside.state c.set_window.new.self
+    windowed g.B.DatabaseName.config c.self.inside.front c.args.window c.self.inside.state c.set_window.new.self
     c.set_window.result c.set_window.ensures.answers c.set_window.ensures.err c.self.invariant

@@ -7,7 +7,7 @@ use Rattle.fdb_sections.proofs.roles.shard.ShardAt.new.Goals as goal
 pub invariant_of-result : goal.invariant_of-result
 invariant_of-result g c =
     subst (λ (front : List Entry). (c.args.tag ≡ c.new-shard.result.tag)
-    × IsThere g.B.ClusterName.config (record { front = front; shard = c.new-shard.result }))
+    × IsThere g.B.DatabaseName.config (record { front = front; shard = c.new-shard.result }))
     (sym c.in_ok-front.ensures)
-    (starts g.B.ClusterName.config c.args.tag _ c.new-shard.result c.requires.exists c.requires.its
+    (starts g.B.DatabaseName.config c.args.tag _ c.new-shard.result c.requires.exists c.requires.its
     c.new-shard.ensures)

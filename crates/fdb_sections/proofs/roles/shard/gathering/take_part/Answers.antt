@@ -16,6 +16,6 @@ returns-in_err-behind-clause-answers g c =
     rw same (hands-on {T = Option Range} {U = Option Range} c.in_err-behind.field-0.0
     (part_fault c.version.result reverse part at) (part_fault reader.version reverse part at)
     (λ behind. behind ≡ part_behind reverse part at.shard.range)
-    (λ left. HasTakenPart (run_of g.B.ClusterName.config reader.version reader.front.now) (gathered_of c.args.limit)
+    (λ left. HasTakenPart (run_of g.B.DatabaseName.config reader.version reader.front.now) (gathered_of c.args.limit)
     reverse part at pairs pairs left) (ap (λ version. part_fault version reverse part at) c.version.ensures)
     c.in_err-behind.ensures)

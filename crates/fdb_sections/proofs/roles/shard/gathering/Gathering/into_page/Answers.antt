@@ -22,7 +22,7 @@ returns g c =
     let pairs = inside.pairs.items in
     let page : Page = record { pairs = c.page_of-pairs.result.0; more = c.page_of-pairs.result.1 } in
     let none : is_some inside.rest ≡ false = search rules in
-    gives-gathered g.B.ClusterName.config own c.args.self pairs page c.self.view_is none c.self.invariant
+    gives-gathered g.B.DatabaseName.config own c.args.self pairs page c.self.view_is none c.self.invariant
     (subst (λ (n : ℕ). (all : List (Point × List ℕ)) → pairs ≡ first_of (wanted n) all
     → (page.pairs ≡ first_of n all) × (page.more ≡ nat_lt (length page.pairs) (length all))) c.most_of.ensures
     (λ all is. c.page_of-pairs.ensures all (c.from_vec.ensures ∙ is)))

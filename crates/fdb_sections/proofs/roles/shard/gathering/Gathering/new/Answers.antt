@@ -6,7 +6,7 @@ use Rattle.fdb_sections.proofs.roles.shard.gathering.Gathering.new.Goals as goal
 
 pub invariant_of-result : goal.invariant_of-result
 invariant_of-result g c =
-    let config = g.B.ClusterName.config in
+    let config = g.B.DatabaseName.config in
     let it : Gathering = record {
       version = c.new.result.version;
       front = c.new.result.front.now;

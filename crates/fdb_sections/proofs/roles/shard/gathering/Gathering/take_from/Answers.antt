@@ -15,7 +15,7 @@ invariant_of-self-2 g c =
       is_reverse = inside.reverse;
       rest = inside.rest;
     } in
-    let config = g.B.ClusterName.config in
+    let config = g.B.DatabaseName.config in
     let part = c.in-Some.rest in
     let at = c.args.at.now in
     let pairs = inside.pairs.items in

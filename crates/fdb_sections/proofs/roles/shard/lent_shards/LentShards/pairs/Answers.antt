@@ -9,5 +9,5 @@ returns g c =
     let own : LentShards =
     record { version = inside.reader.version; front = inside.reader.front.now; range = inside.range.now } in
     c.from_vec.ensures
-    ∙ all-pairs g.B.ClusterName.config own c.args.self.now (lent_shards inside.shards.now) c.self.view_is
+    ∙ all-pairs g.B.DatabaseName.config own c.args.self.now (lent_shards inside.shards.now) c.self.view_is
     c.self.invariant.1 c.in_ok-pairs.pairs.items c.in_ok-pairs.ensures

@@ -11,7 +11,7 @@ returns g c =
     record { version = inside.reader.version; front = inside.reader.front.now; range = inside.range.now } in
     let page : Page = record { pairs = c.page_of-pairs.result.0; more = c.page_of-pairs.result.1 } in
     let within : c.is_within.result ≡ true = search rules in
-    gives-page g.B.ClusterName.config own c.args.self.now (lent_shards inside.shards.now) c.self.view_is
+    gives-page g.B.DatabaseName.config own c.args.self.now (lent_shards inside.shards.now) c.self.view_is
     c.self.invariant.1 c.args.range.now c.args.limit c.one_more.result c.args.reverse c.in_ok-found.found.items page
     (sym c.is_within.ensures.value ∙ within) c.one_more.ensures c.in_ok-found.ensures
     (λ all is. c.page_of-pairs.ensures all (c.from_vec.ensures ∙ is))

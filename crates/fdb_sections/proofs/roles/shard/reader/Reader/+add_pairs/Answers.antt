@@ -22,7 +22,7 @@ returns-in_default g t c =
     few-are-first c.args.wanted pairs c.requires.few
     ∙ ap (λ (none : List (Point × List ℕ)). first_of c.args.wanted (pairs ++ none)) (sym
     (none-held c.args.shards.now c.in_default.len_below
-    (run_of g.B.ClusterName.config reader.version reader.front.now) c.args.range.now c.args.reverse))
+    (run_of g.B.DatabaseName.config reader.version reader.front.now) c.args.range.now c.args.reverse))
 
 pub returns-then-reverse : goal.returns-then-reverse
 returns-then-reverse g t c =
@@ -30,7 +30,7 @@ returns-then-reverse g t c =
     let range = c.args.range.now in
     let reverse = c.args.reverse in
     let pairs = c.args.pairs.now.items in
-    let run : Map = run_of g.B.ClusterName.config reader.version reader.front.now in
+    let run : Map = run_of g.B.DatabaseName.config reader.version reader.front.now in
     let at = c.first-item.result.now in
     let others = others_of c.args.shards.now in
     let backward : reverse ≡ true = search rules in
@@ -50,7 +50,7 @@ returns g t c =
     let range = c.args.range.now in
     let reverse = c.args.reverse in
     let pairs = c.args.pairs.now.items in
-    let run : Map = run_of g.B.ClusterName.config reader.version reader.front.now in
+    let run : Map = run_of g.B.DatabaseName.config reader.version reader.front.now in
     let at = c.first-item.result.now in
     let others = others_of c.args.shards.now in
     let forward : reverse ≡ false = search rules in

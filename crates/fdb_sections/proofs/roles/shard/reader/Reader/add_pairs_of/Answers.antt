@@ -16,5 +16,5 @@ returns-in_ok-append-clause-answers g c =
     c.in_ok-append.ensures.items
     ∙ ap (λ (more : List (Point × List ℕ)). pairs ++ more) c.in_ok-pairs_of.ensures
     ∙ first-left c.args.wanted pairs
-    (pairs_at (run_of g.B.ClusterName.config reader.version reader.front.now) c.args.range.now c.args.reverse
+    (pairs_at (run_of g.B.DatabaseName.config reader.version reader.front.now) c.args.range.now c.args.reverse
     c.args.at.now) c.in-Some.limit left

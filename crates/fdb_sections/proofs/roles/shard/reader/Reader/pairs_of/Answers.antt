@@ -13,7 +13,7 @@ returns-in-Some g c =
     let range = c.args.range.now in
     let part = c.in-Some.part in
     let view = c.new-view.result in
-    let config = g.B.ClusterName.config in
+    let config = g.B.DatabaseName.config in
     let clipped : clipped_range range shard.range ≡ Some part =
     ap (clipped_range range) (sym c.range.ensures) ∙ sym c.in_ok-part.ensures.answers ∙ c.in-Some.is in
     let none : range_fault view part ≡ None =
@@ -36,5 +36,5 @@ returns-in-None g c =
     ap (clipped_range range) (sym c.range.ensures) ∙ sym c.in_ok-part.ensures.answers ∙ c.in-None.is in
     c.new.ensures.items
     ∙ sym (ap (first_of c.args.limit) (no-pairs range shard.range clipped
-    (run_of g.B.ClusterName.config c.args.self.now.version c.args.self.now.front.now) c.args.reverse)
+    (run_of g.B.DatabaseName.config c.args.self.now.version c.args.self.now.front.now) c.args.reverse)
     ∙ first-none c.args.limit)

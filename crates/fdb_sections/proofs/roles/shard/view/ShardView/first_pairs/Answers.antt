@@ -15,6 +15,6 @@ returns-in_err-found g c =
 
 pub returns : goal.returns
 returns g c =
-    let given = gives-first g.B.ClusterName.config _ _ c.args.self.now c.at.view_is c.self.view_is c.at.invariant.1
+    let given = gives-first g.B.DatabaseName.config _ _ c.args.self.now c.at.view_is c.self.view_is c.at.invariant.1
     c.self.invariant c.args.range.now c.args.limit c.args.reverse c.in_ok-found.found c.in_ok-found.ensures in
     rw given.0 (c.into_vec.ensures ∙ given.1)

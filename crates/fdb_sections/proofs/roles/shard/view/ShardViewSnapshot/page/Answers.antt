@@ -15,5 +15,5 @@ returns-in_err-found g c =
 
 pub returns : goal.returns
 returns g c =
-    gives-page g.B.ClusterName.config _ _ c.args.self.now c.at.view_is c.self.view_is c.at.invariant.1
+    gives-page g.B.DatabaseName.config _ _ c.args.self.now c.at.view_is c.self.view_is c.at.invariant.1
     c.self.invariant c.args.range.now c.args.limit c.args.reverse c.in_ok-found.found c.in_ok-found.ensures

@@ -1,0 +1,8 @@
+mod BankExamplesLemmas
+mod BankLemmas
+mod CountersExamplesLemmas
+mod CountersLemmas
+mod CountingLemmas
+mod OperationsLemmas
+mod TableExamplesLemmas
+mod TableLemmas

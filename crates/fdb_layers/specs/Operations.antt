@@ -1,0 +1,22 @@
+-- What the transactions of layers are made of.
+use Rattle.std.specs.Prelude.{◌≡◌, ℕ, false, List, [], Option}
+use Rattle.fdb_keys.specs.Points.{Point}
+use Rattle.fdb_mutations.specs.declared.mutation.Mutation.{Mutation}
+use Rattle.fdb_client.specs.declared.program.Op.{Op}
+use Rattle.fdb_client.specs.declared.program.Op.TheVariants as op
+use Rattle.fdb_client.specs.declared.program.Reply.{Reply}
+use Rattle.fdb_client.specs.declared.program.Reply.TheVariants as reply
+use Rattle.fdb_client.specs.declared.program.Transcript.{Transcript}
+use Rattle.fdb_client.specs.Programs.{program, mutations_of}
+
+-- the key is read, by no snapshot, and this stood there
+abbrev pub reading : Point → Option (List ℕ) → Op × Reply
+reading key value = (op.Get key false, reply.Value value)
+
+-- the mutation is buffered, and that is answered
+abbrev pub writing : Mutation → Op × Reply
+writing mutation = (op.Write mutation, reply.Done)
+
+-- the transaction writes no value: it reads keys and ranges, whatever it was answered, and adds ranges
+abbrev pub WritesNoValue : Transcript → Type 0
+WritesNoValue transcript = mutations_of (program transcript.ops) ≡ []

@@ -1,0 +1,48 @@
+// What a session and its open transaction are numbered by, and how that is given up.
+ghost use Rattle.std.specs.Prelude.{◌≡◌, None};
+ghost use Rattle.std.specs.Option.{option_map};
+ghost use Rattle.fdb_client.specs.declared.program.Transcript.{Transcript as ATranscript};
+ghost use Rattle.fdb_sections.specs.Sessions.{with_current};
+
+use crate::session::Session;
+use fdb_sections::DatabaseName;
+use fdb_txn::TxnId;
+
+impl<B: DatabaseName> Session<B> {
+    /// The session's number, by which the ids of its transactions begin. No other session that the database gave has
+    /// it. It takes no memory, and O(1) time.
+    pub fn number(&self) -> u32
+        ensures { result ≡ self.now.number }
+    {
+        self.client.number()
+    }
+
+    /// The number that the session's next transaction gets. It takes no memory, and O(1) time.
+    pub fn next_number(&self) -> u64
+        ensures { result ≡ self.now.next_number }
+    {
+        self.client.next_number()
+    }
+
+    /// The id of the open transaction, if there is one. It takes no memory, and O(1) time.
+    pub fn open_id(&self) -> Option<TxnId>
+        ensures { result ≡ option_map (λ (transcript : ATranscript). transcript.id) self.now.current }
+    {
+        self.client.open_id()
+    }
+
+    /// The version that the open transaction reads at, if there is one. It takes no memory, and O(1) time.
+    pub fn read_version(&self) -> Option<u64>
+        ensures { result ≡ option_map (λ (transcript : ATranscript). transcript.read_version) self.now.current }
+    {
+        self.client.read_version()
+    }
+
+    /// Gives up the open transaction, if there is one: it has no effect, and nobody is told of it. It waits for nobody.
+    /// It takes no memory, and the time of giving back what the transaction holds.
+    pub fn abandon(&mut self)
+        ensures { self.new ≡ with_current self.old None }
+    {
+        self.client.abandon();
+    }
+}

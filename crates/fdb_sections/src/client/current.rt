@@ -1,0 +1,40 @@
+// What a client's session and its open transaction are numbered by, and how that is given up.
+ghost use Rattle.std.specs.Prelude.{◌≡◌, None};
+ghost use Rattle.std.specs.Option.{option_map};
+ghost use Rattle.fdb_client.specs.declared.program.Transcript.{Transcript as ATranscript};
+ghost use Rattle.fdb_sections.specs.Sessions.{with_current};
+
+use crate::client::Client;
+use crate::name::DatabaseName;
+use fdb_txn::TxnId;
+
+impl<B: DatabaseName> Client<B> {
+    /// The session's number. It takes no memory, and O(1) time.
+    pub fn number(&self) -> u32
+        ensures { result ≡ self.now.session.number }
+    {
+        self.state.number()
+    }
+
+    /// The number that the session's next transaction gets. It takes no memory, and O(1) time.
+    pub fn next_number(&self) -> u64
+        ensures { result ≡ self.now.session.next_number }
+    {
+        self.state.next_number()
+    }
+
+    /// The id of the open transaction, if there is one. It takes no memory, and O(1) time.
+    pub fn open_id(&self) -> Option<TxnId>
+        ensures { result ≡ option_map (λ (transcript : ATranscript). transcript.id) self.now.session.current }
+    {
+        self.state.open_id()
+    }
+
+    /// Gives up the open transaction, if there is one: it has no effect. It takes no memory, and the time of giving
+    /// back what the transaction holds.
+    pub fn abandon(&mut self)
+        ensures { self.new ≡ record self.old { session = with_current self.old.session None } }
+    {
+        self.state.abandon();
+    }
+}
