@@ -10,7 +10,7 @@ use Rattle.fdb_keys.proofs.InsertionLemmas.{HasLegalBounds}
 use Rattle.fdb_keys.proofs.SingleLemmas.{next_after, below_next}
 use Rattle.fdb_keys.proofs.TextsLemmas.{is_bound-key, is_bound-after}
 
-legal_from : (begin end : Point) → is_bound begin ≡ true → is_bound end ≡ true → point_lt end begin ≡ false
+pub legal_from : (begin end : Point) → is_bound begin ≡ true → is_bound end ≡ true → point_lt end begin ≡ false
     → HasLegalBounds (record { begin = begin; end = end })
 legal_from begin end of_begin of_end ordered =
     and_from (is_bound begin && is_bound end) _ (and_from (is_bound begin) (is_bound end) of_begin of_end)

@@ -12,6 +12,7 @@ mod OrderedLemmas
 mod OutsideLemmas
 mod PlaceLemmas
 mod PointOrder
+mod PrefixLemmas
 mod PutBackLemmas
 mod RangeMapLemmas
 mod RangesLemmas

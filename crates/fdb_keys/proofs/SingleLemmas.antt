@@ -13,25 +13,25 @@ use Rattle.fdb_keys.proofs.PointOrder.{lt-itself, lt_one_way, le_lt_chain}
 use Rattle.fdb_keys.proofs.RangesLemmas.{in_range_parts, in_range_from}
 
 -- what two texts with first bytes compared by `first` and rests compared by `rest` answer
-first_less : (x y : ℕ) (xs ys : List ℕ) → x < y → point_lt (x ∷ xs) (y ∷ ys) ≡ true
+pub first_less : (x y : ℕ) (xs ys : List ℕ) → x < y → point_lt (x ∷ xs) (y ∷ ys) ≡ true
 unfolding point_lt
 first_less x y xs ys less = ap (λ first. is_lt (ordering_then first (slice_cmp nat_cmp xs ys)))
     (sym (nat_cmp_is x y Less less))
 
-first_equal : (x : ℕ) (xs ys : List ℕ) → point_lt (x ∷ xs) (x ∷ ys) ≡ point_lt xs ys
+pub first_equal : (x : ℕ) (xs ys : List ℕ) → point_lt (x ∷ xs) (x ∷ ys) ≡ point_lt xs ys
 unfolding point_lt
 first_equal x xs ys = ap (λ first. is_lt (ordering_then first (slice_cmp nat_cmp xs ys))) (tied_itself nat_cmp_total x)
 
-first_greater : (x y : ℕ) (xs ys : List ℕ) → y < x → point_lt (x ∷ xs) (y ∷ ys) ≡ false
+pub first_greater : (x y : ℕ) (xs ys : List ℕ) → y < x → point_lt (x ∷ xs) (y ∷ ys) ≡ false
 unfolding point_lt
 first_greater x y xs ys greater = ap (λ first. is_lt (ordering_then first (slice_cmp nat_cmp xs ys)))
     (sym (nat_cmp_is x y Greater greater))
 
-empty_less : (y : ℕ) (ys : List ℕ) → point_lt [] (y ∷ ys) ≡ true
+pub empty_less : (y : ℕ) (ys : List ℕ) → point_lt [] (y ∷ ys) ≡ true
 unfolding point_lt
 empty_less y ys = refl
 
-empty_not_less : (xs : List ℕ) → point_lt xs [] ≡ false
+pub empty_not_less : (xs : List ℕ) → point_lt xs [] ≡ false
 unfolding point_lt
 empty_not_less [] = refl
 empty_not_less (x ∷ xs) = refl

@@ -1,8 +1,12 @@
--- Refusals, computed.
-use Rattle.std.specs.Prelude.{◌≡◌, ℕ, List, [], ◌∷◌, length, codes, Some, None}
+-- Refusals and ranges of prefixes, computed.
+use Rattle.std.specs.Prelude.{◌≡◌, ◌||◌, ℕ, true, false, List, [], ◌∷◌, length, codes, Some, None, nat_eq}
 use Rattle.fdb_keys.specs.Limits.{key_limit, bound_limit}
+use Rattle.fdb_keys.specs.Prefixes.{prefix_range}
+use Rattle.fdb_keys.specs.Ranges.{in_range}
 use Rattle.fdb_keys.specs.Refusals.{code_of, name_of}
+use Rattle.fdb_keys.specs.Retries.{is_maybe_committed, is_retryable}
 use Rattle.fdb_keys.specs.Texts.{key_fault, range_fault}
+use Rattle.fdb_keys.specs.declared.refusal.Refusal.{Refusal}
 use Rattle.fdb_keys.specs.declared.refusal.Refusal.TheVariants.{TransactionTooOld, FutureVersion, NotCommitted}
 use Rattle.fdb_keys.specs.declared.refusal.Refusal.TheVariants.{CommitUnknownResult, AccessedUnreadable}
 use Rattle.fdb_keys.specs.declared.refusal.Refusal.TheVariants.{KeyOutsideLegalRange}
@@ -72,6 +76,12 @@ WorkedNames =
     × (name_of NoTransaction ≡ codes "NoTransaction")
     × (name_of Unknown ≡ codes "Unknown")
 
+-- By its number: what may be tried anew, and what may be committed already. No refusal is both.
+abbrev pub RetriesByNumber : Refusal → Type 0
+RetriesByNumber why =
+    (is_retryable why ≡ (nat_eq (code_of why) 1007 || nat_eq (code_of why) 1009 || nat_eq (code_of why) 1020))
+    × (is_maybe_committed why ≡ nat_eq (code_of why) 1021)
+
 -- the most bytes of a key, and of a bound
 abbrev pub WorkedLimits : Type 0
 WorkedLimits =
@@ -112,3 +122,18 @@ WorkedLengths =
     × ((text : List ℕ) → length text ≡ 10000 → range_fault [] (255 ∷ 0 ∷ text) ≡ Some KeyTooLarge)
     × ((text : List ℕ) → length text ≡ 10001 → range_fault (97 ∷ text) [] ≡ Some KeyTooLarge)
     × ((text : List ℕ) → length text ≡ 10001 → range_fault (255 ∷ 0 ∷ []) (97 ∷ text) ≡ Some KeyTooLarge)
+
+-- Prefixes: where their ranges end, the bytes FF at the end of a prefix being dropped, and which keys lie in the range
+-- of one that ends with FF.
+abbrev pub WorkedPrefixes : Type 0
+WorkedPrefixes =
+    ((prefix_range []).end ≡ 255 ∷ [])
+    × ((prefix_range (97 ∷ [])).end ≡ 98 ∷ [])
+    × ((prefix_range (97 ∷ 255 ∷ [])).end ≡ 98 ∷ [])
+    × ((prefix_range (97 ∷ 255 ∷ 98 ∷ [])).end ≡ 97 ∷ 255 ∷ 99 ∷ [])
+    × ((prefix_range (254 ∷ 255 ∷ 255 ∷ [])).end ≡ 255 ∷ [])
+    × (in_range (prefix_range (97 ∷ 255 ∷ [])) (97 ∷ 255 ∷ []) ≡ true)
+    × (in_range (prefix_range (97 ∷ 255 ∷ [])) (97 ∷ 255 ∷ 0 ∷ []) ≡ true)
+    × (in_range (prefix_range (97 ∷ 255 ∷ [])) (97 ∷ 254 ∷ 255 ∷ []) ≡ false)
+    × (in_range (prefix_range (97 ∷ 255 ∷ [])) (98 ∷ []) ≡ false)
+    × (in_range (prefix_range (97 ∷ 255 ∷ [])) (97 ∷ []) ≡ false)

@@ -10,10 +10,12 @@ pub mod KeyOrder
 pub mod Limits
 pub mod Ordered
 pub mod Points
+pub mod Prefixes
 pub mod RangeMaps
 pub mod Ranges
 pub mod Refusals
 pub mod Removal
+pub mod Retries
 pub mod SharedRanges
 pub mod Singles
 pub mod Texts

@@ -1,5 +1,6 @@
 ghost use Rattle.std.specs.Prelude.{◌≡◌, IsTrue};
 ghost use Rattle.fdb_keys.specs.Answers.{Answers};
+ghost use Rattle.fdb_keys.specs.Ranges.{single_range};
 ghost use Rattle.fdb_keys.specs.Texts.{is_key, key_fault};
 
 use crate::order::begins_with_ff;
@@ -43,6 +44,21 @@ impl Key {
             return Err(Refusal::KeyOutsideLegalRange);
         }
         let text = Bytes::copy_from_slice(alloc, text)?;
+        Ok(Key { text })
+    }
+
+    /// The key right behind this one, which no other key lies before. Refused as `KeyTooLarge` behind a key of 10,000
+    /// bytes, which is as long as a key may be, and as `NoMemory`. O(n) for the n bytes, which are copied.
+    pub fn next(&self, alloc: Global) -> Result<Self, Refusal>
+        ensures { Answers result (key_fault (single_range self.now).end) (λ key. key ≡ (single_range self.now).end) }
+    {
+        if self.bytes().len() == KEY_LIMIT {
+            return Err(Refusal::KeyTooLarge);
+        }
+        let mut text = Vec::with_capacity(alloc, self.bytes().len() + 1)?;
+        text.extend_from_slice(self.bytes())?;
+        text.push(0)?;
+        let text = Bytes::from_vec(text)?;
         Ok(Key { text })
     }
 

@@ -7,6 +7,7 @@ use crate::key::Key;
 use crate::order::{
     greater_bound, greater_of, have_common_point, is_after_ff, is_before, lesser_bound, lies_within,
 };
+use crate::prefix::after_prefix;
 use crate::range_set::RangeSet;
 use crate::refusal::Refusal;
 use bytes::Bytes;
@@ -48,6 +49,7 @@ impl KeyRange {
     ghost use Rattle.fdb_keys.specs.Cutting.{range_through, range_behind};
     ghost use Rattle.fdb_keys.specs.Insertion.{joined_range};
     ghost use Rattle.fdb_keys.specs.Points.{Point, point_eq, point_lt};
+    ghost use Rattle.fdb_keys.specs.Prefixes.{prefix_range};
     ghost use Rattle.fdb_keys.specs.Ranges.{in_range, in_set, single_range, is_apart, is_empty_range, is_within};
     ghost use Rattle.fdb_keys.specs.Ranges.{ranges_meet};
     ghost use Rattle.fdb_keys.specs.Removal.{range_between, range_minus};
@@ -83,6 +85,16 @@ impl KeyRange {
         let end = text_after(alloc, key)?;
         let range = KeyRange::ending(key, end)?;
         Ok(range)
+    }
+
+    /// The range of all keys that begin with the prefix: from the prefix itself up to but not including the least text
+    /// after all of them. It takes O(n) time for its n bytes. Refused only as `NoMemory`.
+    pub fn prefix(alloc: Global, prefix: &Key) -> Result<Self, Refusal>
+        ensures answers { Answers result None (λ range. range ≡ prefix_range prefix.now) }
+    {
+        let end = after_prefix(alloc, prefix)?;
+        let begin = prefix.text().clone()?;
+        Ok(KeyRange { begin, end })
     }
 
     // The range of one key alone, whose end this is.

@@ -1,17 +1,18 @@
-//! What `==` and `<` say, where ranges meet, and which list of ranges stands for a set of points, for the proofs of
-//! the crates that use these types.
+//! What `==` and `<` say, where ranges meet, which keys the range of a prefix has, and which list of ranges stands for
+//! a set of points, for the proofs of the crates that use these types.
 ghost use Rattle.std.specs.Prelude.{◌≡◌, ◌||◌, List, true};
 ghost use Rattle.std.specs.Ordering.{nat_cmp};
 ghost use Rattle.std.specs.Bool.{Decides};
 ghost use Rattle.std.specs.Cmp.Lexicographic.{pointwise, slice_cmp};
 ghost use Rattle.fdb_keys.specs.Equality.{key_eq, range_eq, range_set_eq, refusal_eq};
 ghost use Rattle.fdb_keys.specs.Examples.{WorkedCodes, WorkedNames, WorkedLimits, WorkedLengths};
-ghost use Rattle.fdb_keys.specs.Examples.{WorkedKeys, WorkedRanges};
+ghost use Rattle.fdb_keys.specs.Examples.{WorkedKeys, WorkedPrefixes, WorkedRanges, RetriesByNumber};
 ghost use Rattle.fdb_keys.specs.Insertion.{with_range, with_ranges};
 ghost use Rattle.fdb_keys.specs.KeyOrder.{key_lt, key_cmp};
 ghost use Rattle.fdb_keys.specs.Points.{Point, point_lt};
+ghost use Rattle.fdb_keys.specs.Prefixes.{are_bytes, begins_with, prefix_range};
 ghost use Rattle.fdb_keys.specs.Ranges.{Range, in_range, in_set, is_apart, ranges_meet};
-ghost use Rattle.fdb_keys.specs.Texts.{is_bound};
+ghost use Rattle.fdb_keys.specs.Texts.{is_bound, is_key};
 
 use crate::key::Key;
 use crate::key_range::KeyRange;
@@ -80,6 +81,17 @@ pub fn range_in_a_set_adds_nothing()
         → ((x : Point) → in_range range x ≡ true → in_set ranges x ≡ true) → with_range range ranges ≡ ranges }
 {}
 
+/// A key lies in the range of a prefix exactly where it begins with it.
+pub fn prefix_range_has_the_keys_that_begin_with_it()
+    ensures { (prefix x : Point) → is_key prefix ≡ true → is_key x ≡ true → are_bytes x ≡ true
+        → in_range (prefix_range prefix) x ≡ begins_with prefix x }
+{}
+
+/// The ends of the ranges of some prefixes, and which keys lie in one of these ranges, by examples.
+pub fn worked_prefixes()
+    ensures { WorkedPrefixes }
+{}
+
 /// The number and the name of each refusal, the limits of texts, and which texts are keys and ranges and why others
 /// aren't, by examples.
 pub fn worked_refusals()
@@ -89,4 +101,10 @@ pub fn worked_refusals()
     ensures lengths { WorkedLengths }
     ensures keys { WorkedKeys }
     ensures ranges { WorkedRanges }
+{}
+
+/// Just the refusals with the numbers 1007, 1009 and 1020 may be tried anew, and just 1021 leaves open whether the
+/// transaction is committed.
+pub fn refusals_that_may_be_tried_anew()
+    ensures { (why : Refusal) → RetriesByNumber why }
 {}

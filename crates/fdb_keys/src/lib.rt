@@ -8,6 +8,7 @@ mod key;
 mod key_range;
 pub mod laws;
 mod order;
+mod prefix;
 mod range_map;
 mod range_set;
 mod refusal;

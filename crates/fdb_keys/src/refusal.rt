@@ -1,6 +1,7 @@
 ghost use Rattle.std.specs.Prelude.{◌≡◌};
 ghost use Rattle.fdb_keys.specs.declared.refusal.Refusal.TheVariants.{NoMemory};
 ghost use Rattle.fdb_keys.specs.Refusals.{code_of, name_of};
+ghost use Rattle.fdb_keys.specs.Retries.{is_maybe_committed, is_retryable};
 
 use std::alloc::{AllocError, AllocFailed};
 use std::fmt;
@@ -105,6 +106,25 @@ impl Refusal {
             Refusal::Unknown => "Unknown",
         }
     }
+
+    /// Whether the transaction that was refused so isn't committed, and may be once all of it is tried anew, at a newer
+    /// read version: at `TransactionTooOld`, `FutureVersion` and `NotCommitted`. O(1), no memory.
+    pub fn is_retryable(&self) -> bool
+        ensures { result ≡ is_retryable self.now }
+    {
+        matches!(
+            self,
+            Refusal::TransactionTooOld | Refusal::FutureVersion | Refusal::NotCommitted
+        )
+    }
+
+    /// Whether the transaction that was refused so may have been committed or not, as at `CommitUnknownResult` alone.
+    /// O(1), no memory.
+    pub fn is_maybe_committed(&self) -> bool
+        ensures { result ≡ is_maybe_committed self.now }
+    {
+        matches!(self, Refusal::CommitUnknownResult)
+    }
 }
 
 impl fmt::Display for Refusal {
@@ -139,7 +159,7 @@ impl fmt::Display for Refusal {
             Refusal::BadConfig => "the number or configuration is not a legal one",
             Refusal::Chain => "the entry does not follow on the one before it",
             Refusal::Taken => "another entry stands in this place already",
-            Refusal::MovesFull => "too many moves are kept",
+            Refusal::MovesFull => "too many moves were made",
             Refusal::Closed => "the database is closed",
             Refusal::WrongState => "the call does not fit the state that its role is in",
             Refusal::NoTransaction => "the session has no open transaction",
@@ -172,6 +192,15 @@ pub struct Refused<T> {
     pub why: Refusal,
     /// What the call was given.
     pub back: T,
+}
+
+// What was given back is dropped.
+impl<T: Drop> From<Refused<T>> for Refusal {
+    ghost from_gives = { λ refused refusal. refusal ≡ refused.why };
+
+    fn from(refused: Refused<T>) -> Refusal {
+        refused.why
+    }
 }
 
 impl<T> fmt::Display for Refused<T> {

@@ -3,6 +3,7 @@ mod BankLemmas
 mod CountersExamplesLemmas
 mod CountersLemmas
 mod CountingLemmas
+mod DoingLemmas
 mod OperationsLemmas
 mod TableExamplesLemmas
 mod TableLemmas

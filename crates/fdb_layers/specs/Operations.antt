@@ -1,5 +1,5 @@
 -- What the transactions of layers are made of.
-use Rattle.std.specs.Prelude.{◌≡◌, ℕ, false, List, [], Option}
+use Rattle.std.specs.Prelude.{◌≡◌, ◌++◌, ℕ, false, List, [], Option, Some, None}
 use Rattle.fdb_keys.specs.Points.{Point}
 use Rattle.fdb_mutations.specs.declared.mutation.Mutation.{Mutation}
 use Rattle.fdb_client.specs.declared.program.Op.{Op}
@@ -20,3 +20,12 @@ writing mutation = (op.Write mutation, reply.Done)
 -- the transaction writes no value: it reads keys and ranges, whatever it was answered, and adds ranges
 abbrev pub WritesNoValue : Transcript → Type 0
 WritesNoValue transcript = mutations_of (program transcript.ops) ≡ []
+
+-- the open transaction did just these
+abbrev pub HasDone : Option Transcript → List (Op × Reply) → Type 0
+HasDone None done = ⊥
+HasDone (Some transcript) done = transcript.ops ≡ done
+
+-- it did these after what it had done before
+abbrev pub DoesMore : Option Transcript → List (Op × Reply) → Option Transcript → Type 0
+DoesMore old more new = (before : List (Op × Reply)) → HasDone old before → HasDone new (before ++ more)

@@ -3,6 +3,7 @@ ghost use Rattle.std.specs.Prelude.{◌≡◌, [], None, IfOk, IfSome, OnOk};
 ghost use Rattle.std.specs.Int.{to_le_bytes, w64};
 ghost use Rattle.std.specs.FinMap.{get};
 ghost use Rattle.fdb_layers.specs.Counters.{adding, first_counter, second_counter, IsOfCounters};
+ghost use Rattle.fdb_runtime.specs.Works.{IsSameSession, IsStillOpen, IsUntouched};
 ghost use Rattle.fdb_sections.specs.ShardViews.{run_of};
 
 use crate::counters::EqualCounters;
@@ -37,7 +38,9 @@ fn add_to_both<B: ClusterName>(
 ) -> Result<(), Refusal>
     requires first { first.now ≡ first_counter }
     requires second { second.now ≡ second_counter }
-    requires begun { IfSome session.old.current (λ transcript. transcript.ops ≡ []) }
+    requires begun { IsUntouched session.old.current }
+    ensures same { IsSameSession session.old session.new }
+    ensures open { OnOk result (IsStillOpen session.old.current session.new.current) }
     ensures adds { OnOk result (IfSome session.new.current (λ transcript. transcript.ops ≡ adding operand.now)) }
     ensures allowed { OnOk result (IfSome session.new.current IsOfCounters) }
 {
@@ -53,17 +56,14 @@ pub struct Count {
 }
 
 impl<B: ClusterName> Work<B, EqualCounters> for Count {
+    ghost does = { λ count transcript. transcript.ops ≡ adding (to_le_bytes w64 count.by) };
+
     fn run<R: Wait>(
         &mut self,
         _rt: &R,
         alloc: Global,
         session: &mut Session<B, EqualCounters>,
-    ) -> Result<(), Refusal>
-        requires begun { IfSome session.old.current (λ transcript. transcript.ops ≡ []) }
-        ensures adds { OnOk result (IfSome session.new.current (λ transcript.
-            transcript.ops ≡ adding (to_le_bytes w64 self.old.by))) }
-        ensures allowed { OnOk result (IfSome session.new.current IsOfCounters) }
-    {
+    ) -> Result<(), Refusal> {
         let first = first_counter(alloc)?;
         let second = second_counter(alloc)?;
         add_to_both(alloc, session, &first, &second, &self.by.to_le_bytes())

@@ -6,9 +6,12 @@ mod bank;
 mod counters;
 mod counting;
 pub mod laws;
+mod operations;
+mod records;
 mod table;
 
 pub use bank::Transfers;
 pub use counters::EqualCounters;
 pub use counting::{Count, read_both};
+pub use records::{PutRecord, RemoveRecord};
 pub use table::IndexedTable;

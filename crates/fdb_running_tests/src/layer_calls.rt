@@ -1,5 +1,6 @@
 // The calls that who writes a layer looks for.
-ghost use Rattle.std.specs.Prelude.{◌≡◌};
+ghost use Rattle.std.specs.Prelude.{◌≡◌, ⊤, OnOk, IfSome};
+ghost use Rattle.fdb_runtime.specs.Works.{IsSameSession, IsStillOpen, IsUntouched};
 
 use crate::asserting::same;
 use crate::running::{Done, Host, Named, byte_of, put, receipt_of, two_sessions};
@@ -7,7 +8,7 @@ use fdb_keys::{Key, KeyRange, Refusal};
 use fdb_making::{coded, count_config};
 use fdb_runtime::{
     Blank, ClusterName, Config, Database, Everything, NoGate, Pages, ReadOptions, Receipt, Session,
-    Status, Work,
+    Status, Tries, Work,
 };
 use std::alloc::Global;
 use std::marker::Brand;
@@ -29,6 +30,14 @@ fn numbers_of<B: ClusterName>(session: &Session<B>) -> (u32, u64, Option<u64>, O
     )
 }
 
+// How many bytes the session's transaction has that sets one key of one byte to one byte: both, and both bounds of the
+// key's range.
+fn size_of_one<B: ClusterName>(alloc: Global, session: &mut Session<B>) -> Result<u64, Refusal> {
+    let key = Key::new(alloc, b"a")?;
+    session.set(alloc, &key, &[7])?;
+    session.size()
+}
+
 // A transaction is given up.
 fn give_up<B: ClusterName, R: Wait + Abort>(
     rt: &R,
@@ -38,7 +47,9 @@ fn give_up<B: ClusterName, R: Wait + Abort>(
     same(rt, numbers_of(session), (1, 0, None, None));
     session.begin(rt, alloc)?;
     same(rt, numbers_of(session), (1, 1, Some(0), Some(0)));
+    same(rt, coded(size_of_one(alloc, session)), Ok(5));
     session.abandon();
+    same(rt, coded(session.size()), Err(9015));
     same(rt, numbers_of(session), (1, 1, None, None));
     let refused = receipt_of(session.commit(rt, alloc)).is_err();
     same(rt, refused, true);
@@ -161,7 +172,41 @@ struct Clash<B: ClusterName> {
     clashes: u32,
 }
 
+// The first byte of the key n, as the session's open transaction reads it.
+fn count_read<B: ClusterName, R: Wait>(
+    rt: &R,
+    alloc: Global,
+    session: &mut Session<B>,
+) -> Result<u8, Refusal>
+    requires begun { IsUntouched session.old.current }
+    ensures same { IsSameSession session.old session.new }
+    ensures open { OnOk result (IsStillOpen session.old.current session.new.current) }
+{
+    let key = Key::new(alloc, b"n")?;
+    let value = session.get(rt, alloc, &key, false)?;
+    match value {
+        Some(value) => Ok(value.as_slice().first().copied().unwrap_or(0)),
+        None => Ok(0),
+    }
+}
+
+// Sets it.
+fn count_written<B: ClusterName>(
+    alloc: Global,
+    session: &mut Session<B>,
+    value: u8,
+) -> Result<(), Refusal>
+    requires open { IsStillOpen session.old.current session.old.current }
+    ensures same { IsSameSession session.old session.new }
+    ensures open { OnOk result (IsStillOpen session.old.current session.new.current) }
+{
+    let key = Key::new(alloc, b"n")?;
+    session.set(alloc, &key, &[value])
+}
+
 impl<B: ClusterName> Work<B, Everything> for Clash<B> {
+    ghost does = { λ clash transcript. ⊤ };
+
     fn run<R: Wait>(
         &mut self,
         rt: &R,
@@ -169,12 +214,11 @@ impl<B: ClusterName> Work<B, Everything> for Clash<B> {
         session: &mut Session<B>,
     ) -> Result<(), Refusal> {
         self.tries = self.tries.saturating_add(1);
-        let value = byte_of(rt, alloc, session, b"n")?.unwrap_or(0);
+        let value = count_read(rt, alloc, session)?;
         if self.tries <= self.clashes {
             let _spot = put(rt, alloc, &mut self.other, b"n", value.saturating_add(10))?;
         }
-        let key = Key::new(alloc, b"n")?;
-        session.set(alloc, &key, &[value.saturating_add(1)])
+        count_written(alloc, session, value.saturating_add(1))
     }
 }
 
@@ -203,10 +247,10 @@ fn clash_some<B: ClusterName, R: Wait + Abort>(
         tries: 0,
         clashes: 2,
     };
-    let told = told_of(session.transact(rt, alloc, 2, &mut work));
+    let told = told_of(session.transact(rt, alloc, Tries::at_most(2), &mut work));
     same(rt, (told, work.tries), (Err(1020), 2));
     work.clashes = 3;
-    let told = told_of(session.transact(rt, alloc, 5, &mut work));
+    let told = told_of(session.transact(rt, alloc, Tries::at_most(5), &mut work));
     drop(work);
     same(rt, told, Ok((0, next.saturating_add(3))));
     session.begin(rt, alloc)?;

@@ -6,7 +6,7 @@ use crate::running::{Done, Host, Named, thread_of};
 use fdb_keys::Refusal;
 use fdb_layers::{Count, EqualCounters, read_both};
 use fdb_making::{both, coded, count_config};
-use fdb_runtime::{Blank, Bytes, ClusterName, Config, Database, NoGate, Session};
+use fdb_runtime::{Blank, Bytes, ClusterName, Config, Database, NoGate, Session, Tries};
 use std::alloc::Global;
 use std::marker::Brand;
 use std::sync::{Arc, Wait};
@@ -24,7 +24,7 @@ fn count_often<B: ClusterName, R: Wait>(
 ) -> Done {
     let mut count = Count { by: 1 };
     for _time in 0..TIMES {
-        let receipt = session.transact(rt, alloc, 1_000, &mut count)?;
+        let receipt = session.transact(rt, alloc, Tries::at_most(1_000), &mut count)?;
         receipt.know_layer();
         drop(receipt);
     }

@@ -34,7 +34,7 @@ mod sizes;
 #[cfg(test)]
 mod stamps;
 #[cfg(test)]
-mod transfers;
+mod tables;
 #[cfg(test)]
 mod window_changes;
 #[cfg(test)]

@@ -1,16 +1,12 @@
--- The keys of a page lie in the range that was read, and a read gave what stands there.
-use Rattle.std.proofs.Common.{◌≡◌, ◌∙◌, refl, sym, ap, subst, if◌then◌else◌, ℕ, ◌==◌, nat_eq, Bool, true, false}
-use Rattle.std.proofs.Common.{List, [], ◌∷◌, ◌++◌, length, take, drop, Option, Some, None, arith, true≢false}
+-- A page of a walk, and what a read gave.
+use Rattle.std.proofs.Common.{◌≡◌, ◌∙◌, refl, sym, ap, subst, ℕ, ◌==◌, Bool, true, false}
+use Rattle.std.proofs.Common.{List, [], ◌∷◌, length, Option, Some, None, arith, true≢false}
 use Rattle.std.proofs.Common.{Result, Ok, Err}
 use Rattle.std.specs.Prelude.{IfSome}
-use Rattle.std.specs.List.{AllByRecursion, slice_get}
-use Rattle.std.proofs.lemmas.List.{append-nil, take-append-drop}
 use Rattle.fdb_keys.specs.Points.{Point}
-use Rattle.fdb_keys.specs.Ranges.{Range, in_range}
+use Rattle.fdb_keys.specs.Ranges.{Range}
 use Rattle.fdb_mutations.specs.Maps.{Map}
-use Rattle.fdb_mutations.specs.Pairs.{pairs_in}
 use Rattle.fdb_mutations.specs.PairLaws.{given_of}
-use Rattle.fdb_mutations.proofs.Exports.{all_at, all_in-pairs_in}
 use Rattle.fdb_keys.specs.declared.refusal.Refusal.{Refusal}
 use Rattle.fdb_keys.specs.declared.refusal.Refusal.TheVariants.{NoTransaction}
 use Rattle.fdb_txn.specs.book.Book.{seen_of}
@@ -24,23 +20,6 @@ use Rattle.fdb_client.specs.declared.program.Transcript.{Transcript}
 use Rattle.fdb_sections.specs.Reading.{HasRead}
 use Rattle.fdb_sections.specs.Sessions.{Session, with_current}
 use Rattle.fdb_runtime.specs.Walks.{HasReadPage, some_page}
-
-pub given-inside : (map : Map) (range : Range) (limit : ℕ) (is_reverse : Bool) (given : List (Point × List ℕ)) (i : ℕ)
-    (pair : Point × List ℕ) → given ≡ given_of map range limit is_reverse → slice_get given i ≡ Some pair
-    → in_range range pair.0 ≡ true
-given-inside map range limit is_reverse given i pair are at =
-    all_at (λ p. in_range range p.0 ≡ true) given (others (nat_eq limit 0)) i pair at
-    (subst (AllByRecursion (λ p. in_range range p.0 ≡ true))
-    (sym (ap (λ (first : List (Point × List ℕ)). first ++ others (nat_eq limit 0)) are ∙ parts (nat_eq limit 0)))
-    (all_in-pairs_in map range is_reverse))
-  where
-    others : Bool → List (Point × List ℕ)
-    others none = if none then [] else drop limit (pairs_in map range is_reverse)
-
-    parts : (none : Bool) → (if none then pairs_in map range is_reverse else take limit (pairs_in map range is_reverse))
-        ++ others none ≡ pairs_in map range is_reverse
-    parts true = append-nil (pairs_in map range is_reverse)
-    parts false = take-append-drop limit (pairs_in map range is_reverse)
 
 -- ---- a page, unless it has no pair
 pub empty_is_none : (pairs : List (Point × List ℕ)) → (length pairs == 0) ≡ true → None ≡ some_page pairs

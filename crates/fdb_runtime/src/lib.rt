@@ -14,6 +14,7 @@ mod work;
 
 pub use bytes::Bytes;
 pub use fdb_book::{Blank, BookName};
+pub use fdb_check::{CheckFault, serial_check};
 pub use fdb_client::{Op, Reply, Transcript};
 pub use fdb_keys::{Items, Key, KeyRange, RangeSet, Refusal, Refused};
 pub use fdb_mutations::{Mutation, Stamp};
@@ -25,7 +26,7 @@ pub use gate::{Gate, NoGate, Role};
 pub use options::ReadOptions;
 pub use pages::Pages;
 pub use status::{ShardStatus, Status};
-pub use work::Work;
+pub use work::{Tries, Work};
 
 /// The database of the cluster `B` where the transactions of the layer `L` are committed: all of them, unless a layer
 /// is named.

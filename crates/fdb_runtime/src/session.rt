@@ -31,7 +31,7 @@ use fdb_mutations::Mutation;
 use fdb_roles::Layer;
 use fdb_sections::{
     Asked, Client, ClusterName, CommitReply, DatabaseName, GrantMessage, GrantReply, Layered,
-    Receipt, why_of,
+    Receipt,
 };
 use std::alloc::Global;
 use std::marker::Model;
@@ -188,7 +188,7 @@ impl<B: DatabaseName> Session<B> {
             reply: self.slots.grants()?,
         };
         if let Err(refused) = inbox.put(rt, request) {
-            return Err(why_of(refused));
+            return Err(Refusal::from(refused));
         }
         match self.slots.next_grant(rt) {
             Some(GrantReply::Granted(granted)) => Ok(granted),
@@ -444,7 +444,7 @@ fn ask_commit<B: DatabaseName, R: Wait>(
     }
     let inbox = &inboxes[number as usize % inboxes.len()];
     if let Err(refused) = inbox.put(rt, request) {
-        return CommitReply::Refused(why_of(refused));
+        return CommitReply::Refused(Refusal::from(refused));
     }
     slots
         .next_outcome(rt)

@@ -22,6 +22,7 @@ pub mod RolesAtFronts
 pub mod Sessions
 pub mod ShardViews
 pub mod ShardsAtFronts
+pub mod Sizes
 pub mod Ticketing
 pub mod Turns
 pub mod Waiting

@@ -26,7 +26,7 @@ pub use machines::commit_proxy::{CommitMachine, Next};
 pub use machines::pull::{PullMachine, PullNext};
 pub use machines::read_version_proxy::ReadVersionMachine;
 pub use machines::resolver::{ResolverMachine, SentPart, SentVerdicts};
-pub use making::{add, both, why_of};
+pub use making::{add, both};
 pub use messages::batch_message::BatchMessage;
 pub use messages::commit_message::CommitMessage;
 pub use messages::log_message::LogMessage;

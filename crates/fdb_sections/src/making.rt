@@ -4,7 +4,7 @@ ghost use Rattle.std.specs.Prelude.{◌≡◌, ◌⊎◌, ◌++◌, [], ◌∷�
 ghost use Rattle.std.specs.Option.{option_to_list};
 ghost use Rattle.fdb_keys.specs.declared.refusal.Refusal.TheVariants.{NoMemory};
 
-use fdb_keys::{Refusal, Refused};
+use fdb_keys::Refusal;
 use std::collections::VecDeque;
 
 /// The value beside what was made after it, if that could be made.
@@ -63,11 +63,4 @@ pub(crate) fn take_first<T: Drop>(items: &mut VecDeque<T>) -> Option<T>
     ensures rest { items.new.items ≡ drop 1 items.old.items }
 {
     items.pop_front()
-}
-
-/// Why it is refused. What is handed back is dropped.
-pub fn why_of<T: Drop>(refused: Refused<T>) -> Refusal
-    ensures { result ≡ refused.why }
-{
-    refused.why
 }

@@ -489,6 +489,75 @@ fn a_copy_of_a_shared_set_grows_alone(rt: HostRuntime) {
     }
 }
 
+// Whether the key behind the key a is a0, and how behind a key of so many bytes it ends.
+fn next_of(alloc: Global, count: usize) -> Result<(bool, u32), Refusal> {
+    let key = Key::new(alloc, b"a")?;
+    let next = key.next(alloc)?;
+    let long = long_key(alloc, count)?;
+    Ok((next.bytes() == b"a\0".as_slice(), code_of(long.next(alloc))))
+}
+
+#[test]
+fn behind_a_key_lies_the_next_one(rt: HostRuntime) {
+    let alloc = rt.alloc();
+    let found = [next_of(alloc, 9_999), next_of(alloc, 10_000)];
+    same(&rt, found, [Ok((true, 0)), Ok((true, 2102))]);
+}
+
+// The bounds of the range of a prefix, and whether it has the prefix itself and the prefix with one byte more.
+fn prefix_has(alloc: Global, prefix: Text, end: Text, longer: Text) -> Result<[bool; 3], Refusal> {
+    let key = Key::new(alloc, prefix)?;
+    let range = KeyRange::prefix(alloc, &key)?;
+    Ok([
+        has_bounds(&range, prefix, end),
+        range.contains_text(prefix),
+        range.contains_text(longer),
+    ])
+}
+
+#[test]
+fn range_of_a_prefix_ends_behind_all_that_begin_with_it(rt: HostRuntime) {
+    let alloc = rt.alloc();
+    let found = [
+        prefix_has(alloc, b"", &[0xff], b"z"),
+        prefix_has(alloc, b"a", b"b", b"az"),
+        prefix_has(alloc, &[b'a', 0xff], b"b", &[b'a', 0xff, 0xff]),
+        prefix_has(alloc, &[0xfe, 0xff, 0xff], &[0xff], &[0xfe, 0xff, 0xff, 0]),
+        prefix_has(alloc, b"a", b"b", b"b"),
+    ];
+    let all = Ok([true, true, true]);
+    same(&rt, found, [all, all, all, all, Ok([true, true, false])]);
+}
+
+// Whether it may be tried anew, and whether it may be committed, and the code that is left of it and what it handed back.
+fn retries_of(why: Refusal) -> (bool, bool, u32) {
+    let refused = Refused { why, back: 7u8 };
+    (
+        why.is_retryable(),
+        why.is_maybe_committed(),
+        Refusal::from(refused).code(),
+    )
+}
+
+#[test]
+fn refusals_tell_what_may_be_tried_anew(rt: HostRuntime) {
+    let found = [
+        retries_of(Refusal::NotCommitted),
+        retries_of(Refusal::TransactionTooOld),
+        retries_of(Refusal::FutureVersion),
+        retries_of(Refusal::CommitUnknownResult),
+        retries_of(Refusal::Closed),
+    ];
+    let wanted = [
+        (true, false, 1020),
+        (true, false, 1007),
+        (true, false, 1009),
+        (false, true, 1021),
+        (false, false, 9013),
+    ];
+    same(&rt, found, wanted);
+}
+
 // Whether a refusal is written as the text, alone and with what is handed back.
 fn is_written(alloc: Global, why: Refusal, text: &str) -> bool {
     let refused = Refused { why, back: 7u8 };

@@ -2,9 +2,12 @@
 ghost use Rattle.std.specs.Prelude.{◌≡◌, None};
 ghost use Rattle.std.specs.Option.{option_map};
 ghost use Rattle.fdb_client.specs.declared.program.Transcript.{Transcript as ATranscript};
+ghost use Rattle.fdb_roles.specs.Sessions.{OfOpen};
 ghost use Rattle.fdb_sections.specs.Sessions.{with_current};
+ghost use Rattle.fdb_sections.specs.Sizes.{TellsSize};
 
 use crate::session::Session;
+use fdb_keys::Refusal;
 use fdb_sections::DatabaseName;
 use fdb_txn::TxnId;
 
@@ -36,6 +39,16 @@ impl<B: DatabaseName> Session<B> {
         ensures { result ≡ option_map (λ (transcript : ATranscript). transcript.read_version) self.now.current }
     {
         self.client.read_version()
+    }
+
+    /// How many bytes the open transaction would have, were it committed now: those of both bounds of each range of its
+    /// read set and of its write set, and of its mutations. Refused as `NoTransaction` where none is open, as
+    /// `TransactionTooLarge` where they are more than 10,000,000, and as `NoMemory`. It takes the time of
+    /// `Txn::request`.
+    pub fn size(&self) -> Result<u64, Refusal>
+        ensures { OfOpen self.now.current result (λ transcript. TellsSize result transcript) }
+    {
+        self.client.size()
     }
 
     /// Gives up the open transaction, if there is one: it has no effect, and nobody is told of it. It waits for nobody.

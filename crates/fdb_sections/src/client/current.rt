@@ -2,10 +2,13 @@
 ghost use Rattle.std.specs.Prelude.{◌≡◌, None};
 ghost use Rattle.std.specs.Option.{option_map};
 ghost use Rattle.fdb_client.specs.declared.program.Transcript.{Transcript as ATranscript};
+ghost use Rattle.fdb_roles.specs.Sessions.{OfOpen};
 ghost use Rattle.fdb_sections.specs.Sessions.{with_current};
+ghost use Rattle.fdb_sections.specs.Sizes.{TellsSize};
 
 use crate::client::Client;
 use crate::name::DatabaseName;
+use fdb_keys::Refusal;
 use fdb_txn::TxnId;
 
 impl<B: DatabaseName> Client<B> {
@@ -28,6 +31,16 @@ impl<B: DatabaseName> Client<B> {
         ensures { result ≡ option_map (λ (transcript : ATranscript). transcript.id) self.now.session.current }
     {
         self.state.open_id()
+    }
+
+    /// How many bytes the open transaction would have, were it committed now: those of both bounds of each range of its
+    /// read set and of its write set, and of its mutations. Refused as `NoTransaction` where none is open, as
+    /// `TransactionTooLarge` where they are more than 10,000,000, and as `NoMemory`. It takes the time of
+    /// `Txn::request`.
+    pub fn size(&self) -> Result<u64, Refusal>
+        ensures { OfOpen self.now.session.current result (λ transcript. TellsSize result transcript) }
+    {
+        self.state.size()
     }
 
     /// Gives up the open transaction, if there is one: it has no effect. It takes no memory, and the time of giving

@@ -25,7 +25,7 @@ ghost use Rattle.fdb_sections.specs.Receipts.{GrantAtFront};
 ghost use Rattle.fdb_sections.specs.Ticketing.{AnswersTicket};
 
 use crate::known_front::KnownFront;
-use crate::making::{beside, take_first, why_of};
+use crate::making::{beside, take_first};
 use crate::messages::batch_message::BatchMessage;
 use crate::messages::commit_message::CommitMessage;
 use crate::messages::log_message::LogMessage;
@@ -172,7 +172,7 @@ fn hand_on<B: DatabaseName>(
     }
     match at.submit(sealed) {
         Ok(()) => Ok(()),
-        Err(refused) => Err(why_of(refused)),
+        Err(refused) => Err(Refusal::from(refused)),
     }
 }
 

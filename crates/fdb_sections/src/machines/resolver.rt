@@ -6,7 +6,6 @@ ghost use Rattle.fdb_keys.specs.declared.refusal.Refusal.TheVariants.{NoMemory};
 ghost use Rattle.fdb_sections.specs.declared.machines.resolver.SentPart.{SentPart as ASentPart};
 ghost use Rattle.fdb_sections.specs.ResolverMachines.{keeping, finding, TakesTurn};
 
-use crate::making::why_of;
 use crate::messages::part_message::PartMessage;
 use crate::messages::verdict_message::VerdictMessage;
 use crate::name::DatabaseName;
@@ -73,7 +72,7 @@ impl<B: DatabaseName> ResolverMachine<B> {
         let Err(refused) = self.early.put(prev, sent) else {
             return Ok(());
         };
-        match why_of(refused) {
+        match Refusal::from(refused) {
             Refusal::Stale => Ok(()),
             why => Err(why),
         }

@@ -2,10 +2,13 @@
 ghost use Rattle.std.specs.Prelude.{◌≡◌, None};
 ghost use Rattle.std.specs.Option.{option_map};
 ghost use Rattle.fdb_client.specs.declared.program.Transcript.{Transcript as ATranscript};
+ghost use Rattle.fdb_roles.specs.Sessions.{OfOpen};
 ghost use Rattle.fdb_sections.specs.Sessions.{with_current};
+ghost use Rattle.fdb_sections.specs.Sizes.{TellsSize};
 
 use crate::name::DatabaseName;
 use crate::session_state::SessionState;
+use fdb_keys::Refusal;
 use fdb_txn::TxnId;
 use std::mem;
 
@@ -31,6 +34,22 @@ impl<B: DatabaseName> SessionState<B> {
         match &self.current {
             Some(txn) => Some(txn.transcript().id),
             None => None,
+        }
+    }
+
+    /// How many bytes the open transaction would have, were it committed now: those of both bounds of each range of its
+    /// read set and of its write set, and of its mutations. Refused as `NoTransaction` where none is open, as
+    /// `TransactionTooLarge` where they are more than 10,000,000, and as `NoMemory`. It takes the time of
+    /// `Txn::request`.
+    pub fn size(&self) -> Result<u64, Refusal>
+        ensures { OfOpen self.now.current result (λ transcript. TellsSize result transcript) }
+    {
+        match &self.current {
+            Some(txn) => {
+                let request = txn.request()?;
+                Ok(request.size())
+            }
+            None => Err(Refusal::NoTransaction),
         }
     }
 

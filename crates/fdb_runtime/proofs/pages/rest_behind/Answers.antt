@@ -1,7 +1,7 @@
 use Rattle.std.proofs.Common.{◌-◌, ◌<◌, arith, false, length, refl, sym}
 use Rattle.std.proofs.lemmas.Bool.{ltb-true}
 use Rattle.std.proofs.lemmas.Option.{slice_get_read}
-use Rattle.fdb_runtime.proofs.PagesLemmas.{given-inside}
+use Rattle.fdb_client.proofs.Exports.{given-inside}
 use Rattle.fdb_runtime.proofs.pages.rest_behind.Goals as goal
 
 pub behind-requires : goal.behind-requires

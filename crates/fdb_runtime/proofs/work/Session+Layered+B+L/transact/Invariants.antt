@@ -1,0 +1,9 @@
+use Rattle.std.proofs.Common.{◌≡◌, max, ◌+◌, ◌≤◌}
+use Rattle.fdb_runtime.proofs.work.Session+Layered+B+L.transact.Given as goal
+
+-- each try took one number
+abbrev pub invariant-loop-tried : goal.invariant-loop-tried
+invariant-loop-tried g l =
+    (l.self.number ≡ l.fn.self.number)
+    × (l.self.next_number + 1 ≡ l.fn.self.next_number + l._tried)
+    × (l._tried ≤ max 1 l.fn.tries.most)
