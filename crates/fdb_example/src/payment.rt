@@ -1,4 +1,4 @@
-ghost use Rattle.std.specs.Prelude.{⊤, OnOk};
+ghost use Rattle.std.specs.Prelude.{⊤, ℕ, List, OnOk};
 ghost use Rattle.fdb_runtime.specs.Works.{IsSameSession, IsStillOpen, IsUntouched};
 
 use fdb_runtime::{ClusterName, Everything, Key, Refusal, Session, Work};
@@ -43,6 +43,10 @@ fn set_both<B: ClusterName>(
 }
 
 impl<B: ClusterName> Work<B, Everything> for Payment {
+    ghost Task = { List ℕ × List ℕ };
+
+    ghost task = { λ payment. (payment.payer, payment.payee) };
+
     ghost does = { λ payment transcript. ⊤ };
 
     fn run<R: Wait>(
@@ -68,6 +72,10 @@ pub(crate) struct Opening {
 }
 
 impl<B: ClusterName> Work<B, Everything> for Opening {
+    ghost Task = { List ℕ × ℕ };
+
+    ghost task = { λ opening. (opening.account, opening.amount) };
+
     ghost does = { λ opening transcript. ⊤ };
 
     fn run<R: Wait>(

@@ -1,5 +1,6 @@
 -- The bank, worked.
 use Rattle.std.proofs.Common.{◌≡◌, ◌∙◌, sym, ap, refl, ℕ, List, ◌∷◌, [], Some, None, fold, arith, false, ◌<◌}
+use Rattle.std.proofs.Common.{⊎_elim}
 use Rattle.std.specs.Prelude.{codes, true}
 use Rattle.std.specs.Int.{to_le_bytes, w64}
 use Rattle.std.specs.List.{sum_by}
@@ -9,11 +10,13 @@ use Rattle.fdb_mutations.specs.declared.mutation.Mutation.TheVariants.{Set}
 use Rattle.fdb_txn.proofs.Exports.{get-effects}
 use Rattle.fdb_client.specs.declared.program.Op.{Op}
 use Rattle.fdb_client.specs.declared.program.Reply.{Reply}
-use Rattle.fdb_client.specs.declared.program.Reply.TheVariants.{Value}
+use Rattle.fdb_client.specs.declared.program.Reply.TheVariants.{Value, Done}
 use Rattle.fdb_layers.specs.Operations.{reading, writing}
 use Rattle.fdb_layers.specs.Bank.{accounts, amount, paying, total, IsPayment}
 use Rattle.fdb_layers.specs.BankExamples.{thirty_for_bob, ThirtyIsPayment, SnapshotPaymentsFail, GiftsFail}
+use Rattle.fdb_layers.specs.BankExamples.{NoMoreIsRefused}
 use Rattle.fdb_layers.proofs.OperationsLemmas.{written, of_ops, AgreeOn, answered-so, nothing-at, nowhere}
+use Rattle.fdb_layers.proofs.OperationsLemmas.{same-value}
 use Rattle.fdb_layers.proofs.BankLemmas.{bank_starts}
 
 pub thirty_is_payment : ThirtyIsPayment
@@ -115,3 +118,21 @@ gifts_fail keeps =
     (keeps nowhere (of_ops gift) 0 0 refl answered-gift bank_starts).sum_stays in
     let summed : total (effects nowhere (written 0 0 gift)) ≡ 330 = total-after gift in
     not-both (total (effects nowhere (written 0 0 gift))) 330 300 (omega arith) summed balanced
+
+-- what the first operation was answered
+abbrev first-reply : List (Op × Reply) → Reply
+first-reply [] = Done
+first-reply (done ∷ others) = done.1
+
+pub no_more_is_refused : NoMoreIsRefused
+no_more_is_refused transcript is = (
+  record { payer_had = None; payee_had = None; why = inr (omega arith); done = is },
+  λ refused. ⊎_elim
+      (λ same. cc)
+      (λ less. not-less (amount refused.payer_had) less
+      (ap amount (sym (same-value None refused.payer_had (ap first-reply (sym is ∙ refused.done))))))
+      refused.why,
+)
+  where
+    not-less : (had : ℕ) → had < 100 → had ≡ 100 → ⊥
+    not-less had less is = absurd (omega arith)

@@ -16,7 +16,7 @@ pub on-ok : {T E : Type 0} (result : Result T E) (P Q : Type 0) → (P → Q) �
 on-ok (Ok given) P Q so holds = so holds
 on-ok (Err why) P Q so holds = tt
 
-begun-none : (current : Option Transcript) → IsUntouched current → HasDone current []
+pub begun-none : (current : Option Transcript) → IsUntouched current → HasDone current []
 begun-none None begun = begun
 begun-none (Some transcript) begun = begun
 
@@ -33,7 +33,8 @@ module _ (a b c : Option Transcript) (key : Point) (first second id : List ℕ) 
   forgotten : HasDone c (reading (record_key id) had ∷ forgetting id had)
   forgotten = subst (λ (text : List ℕ). DoesMore b (forgetting text had) c) second-is forgets
       (reading (record_key id) had ∷ [])
-      (subst (λ (k : Point). HasDone b (reading k had ∷ [])) (is ∙ ap record_key first-is) (reads [] (begun-none a begun)))
+      (subst (λ (k : Point). HasDone b (reading k had ∷ [])) (is ∙ ap record_key first-is)
+      (reads [] (begun-none a begun)))
 
   -- so a put is done, and is one of the table's transactions
   pub put-done : (d : Option Transcript) (third bytes value : List ℕ) → third ≡ id → bytes ≡ value

@@ -11,6 +11,8 @@ use Rattle.fdb_roles.specs.Layers.{Keeps}
 use Rattle.fdb_roles.specs.Spots.{AnsweredOn}
 use Rattle.fdb_layers.specs.Operations.{reading, writing}
 use Rattle.fdb_layers.specs.Bank.{IsOfBank, IsBalanced, IsPayment}
+use Rattle.fdb_layers.specs.Paying.{HasNotPaid}
+use Rattle.fdb_layers.specs.declared.accounts.Account.TheVariants.{Ann, Bob}
 
 -- the calls of a payment of 30 from ann to bob, one after another, where neither account was set before
 abbrev pub thirty_for_bob : List (Op × Reply)
@@ -38,3 +40,11 @@ SnapshotPaymentsFail = Keeps (IsPayment true) IsBalanced → ⊥
 -- nor does who sets one account alone
 abbrev pub GiftsFail : Type 0
 GiftsFail = Keeps IsGift IsBalanced → ⊥
+
+-- Who reads both accounts, of which none was set before, and writes nothing, may say that 101 aren't paid, and not that
+-- 100 aren't, which the payer has.
+abbrev pub NoMoreIsRefused : Type 0
+NoMoreIsRefused =
+    (transcript : Transcript)
+    → transcript.ops ≡ reading (codes "bank/ann") None ∷ reading (codes "bank/bob") None ∷ []
+    → HasNotPaid Ann Bob 101 transcript × (HasNotPaid Ann Bob 100 transcript → ⊥)

@@ -1,7 +1,16 @@
+pub mod Accounts
+pub mod Auditing
 pub mod Bank
 pub mod BankExamples
 pub mod Counters
 pub mod CountersExamples
+pub mod Finding
 pub mod Operations
+pub mod Paying
+pub mod Queue
+pub mod QueueBooks
+pub mod QueueBooksExamples
+pub mod QueueExamples
+pub mod Reads
 pub mod Table
 pub mod TableExamples

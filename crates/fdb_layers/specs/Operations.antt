@@ -1,6 +1,7 @@
 -- What the transactions of layers are made of.
 use Rattle.std.specs.Prelude.{◌≡◌, ◌++◌, ℕ, false, List, [], Option, Some, None}
 use Rattle.fdb_keys.specs.Points.{Point}
+use Rattle.fdb_keys.specs.Ranges.{Range}
 use Rattle.fdb_mutations.specs.declared.mutation.Mutation.{Mutation}
 use Rattle.fdb_client.specs.declared.program.Op.{Op}
 use Rattle.fdb_client.specs.declared.program.Op.TheVariants as op
@@ -12,6 +13,10 @@ use Rattle.fdb_client.specs.Programs.{program, mutations_of}
 -- the key is read, by no snapshot, and this stood there
 abbrev pub reading : Point → Option (List ℕ) → Op × Reply
 reading key value = (op.Get key false, reply.Value value)
+
+-- all pairs of the range are read in the order of their keys, by no snapshot, and these stood there
+abbrev pub reading_range : Range → List (Point × List ℕ) → Op × Reply
+reading_range range pairs = (op.Range range 0 false false, reply.Pairs pairs)
 
 -- the mutation is buffered, and that is answered
 abbrev pub writing : Mutation → Op × Reply

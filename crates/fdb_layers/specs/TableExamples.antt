@@ -1,6 +1,9 @@
--- The table, worked: which transactions are its own, and which put would break its index.
+-- The table, worked: which transactions are its own, which put would break its index, and what is found by a value.
 use Rattle.std.specs.Prelude.{◌≡◌, ℕ, List, [], ◌∷◌, ◌++◌, codes, Option, Some, None}
-use Rattle.std.specs.FinMap.{get}
+use Rattle.std.specs.Cmp.Lexicographic.{slice_cmp}
+use Rattle.std.specs.FinMap.{from_entries, get}
+use Rattle.std.specs.Ordering.{nat_cmp}
+use Rattle.fdb_keys.specs.Points.{Point}
 use Rattle.fdb_mutations.specs.Maps.{Map}
 use Rattle.fdb_mutations.specs.declared.mutation.Mutation.TheVariants.{Set, Clear}
 use Rattle.fdb_client.specs.declared.program.Op.{Op}
@@ -8,6 +11,7 @@ use Rattle.fdb_client.specs.declared.program.Reply.{Reply}
 use Rattle.fdb_client.specs.declared.program.Transcript.{Transcript}
 use Rattle.fdb_roles.specs.Layers.{Keeps}
 use Rattle.fdb_roles.specs.Spots.{AnsweredOn}
+use Rattle.fdb_layers.specs.Finding.{AreFoundBy}
 use Rattle.fdb_layers.specs.Operations.{reading, writing}
 use Rattle.fdb_layers.specs.Table.{IsOfTable, AreIndexed, IsForgetfulPut}
 
@@ -29,3 +33,25 @@ PinkIsPut =
 -- who forgets to clear the entry of the old value doesn't keep the index
 abbrev pub ForgetfulPutsFail : Type 0
 ForgetfulPutsFail = Keeps IsForgetfulPut AreIndexed → ⊥
+
+-- a table's pairs: ann and bob hold pink, and cid holds blue
+abbrev pub three_pairs : List (Point × List ℕ)
+three_pairs =
+    (codes "i/bluecid", []) ∷ (codes "i/pinkann", []) ∷ (codes "i/pinkbob", []) ∷ (codes "t/ann", codes "pink")
+    ∷ (codes "t/bob", codes "pink") ∷ (codes "t/cid", codes "blue") ∷ []
+
+abbrev pub three_records : Map
+three_records = from_entries {R = slice_cmp nat_cmp} three_pairs
+
+-- pink finds ann and bob there, blue finds cid, and mint finds nobody
+abbrev pub ValuesFindTheirRecords : Type 0
+ValuesFindTheirRecords =
+    AreFoundBy three_records (codes "pink") (codes "ann" ∷ codes "bob" ∷ [])
+    × AreFoundBy three_records (codes "blue") (codes "cid" ∷ [])
+    × AreFoundBy three_records (codes "mint") []
+
+-- what is found by a value is one list alone
+abbrev pub OneListIsFound : Type 0
+OneListIsFound =
+    (map : Map) (value : List ℕ) (ids others : List (List ℕ)) → AreFoundBy map value ids → AreFoundBy map value others
+    → ids ≡ others

@@ -1,5 +1,5 @@
 //! The counters of a running database: sessions add to both, and read both.
-ghost use Rattle.std.specs.Prelude.{◌≡◌, [], None, IfOk, IfSome, OnOk};
+ghost use Rattle.std.specs.Prelude.{◌≡◌, ℕ, [], None, IfOk, IfSome, OnOk};
 ghost use Rattle.std.specs.Int.{to_le_bytes, w64};
 ghost use Rattle.std.specs.FinMap.{get};
 ghost use Rattle.fdb_layers.specs.Counters.{adding, first_counter, second_counter, IsOfCounters};
@@ -56,6 +56,10 @@ pub struct Count {
 }
 
 impl<B: ClusterName> Work<B, EqualCounters> for Count {
+    ghost Task = { ℕ };
+
+    ghost task = { λ count. count.by };
+
     ghost does = { λ count transcript. transcript.ops ≡ adding (to_le_bytes w64 count.by) };
 
     fn run<R: Wait>(

@@ -1,5 +1,5 @@
 //! The records of a running database's table: work that puts one or removes one.
-ghost use Rattle.std.specs.Prelude.{◌≡◌, ◌++◌, IfOk, OnOk};
+ghost use Rattle.std.specs.Prelude.{◌≡◌, ◌++◌, ℕ, List, IfOk, OnOk};
 ghost use Rattle.std.specs.Int.{to_be_bytes, w32};
 ghost use Rattle.fdb_layers.specs.Operations.{DoesMore};
 ghost use Rattle.fdb_layers.specs.Table.{clearing, entry_key, forgetting, putting, record_key, removing, setting};
@@ -61,17 +61,17 @@ fn forget<B: ClusterName>(
 fn put<B: ClusterName>(
     alloc: Global,
     session: &mut Session<B, IndexedTable>,
-    record: &Key,
+    row: &Key,
     id: &[u8],
     value: &[u8],
 ) -> Result<(), Refusal>
-    requires record { record.now ≡ record_key id.now }
+    requires row { row.now ≡ record_key id.now }
     ensures same { IsSameSession session.old session.new }
     ensures open { OnOk result (IsStillOpen session.old.current session.new.current) }
     ensures puts { OnOk result (DoesMore session.old.current (setting id.now value.now) session.new.current) }
 {
     let entry = entry_key(alloc, value, id)?;
-    set(alloc, session, record, value)?;
+    set(alloc, session, row, value)?;
     set(alloc, session, &entry, &[])
 }
 
@@ -90,8 +90,8 @@ fn remove<B: ClusterName>(
 {
     match had {
         Some(_) => {
-            let record = record_key(alloc, id)?;
-            clear(session, &record)
+            let row = record_key(alloc, id)?;
+            clear(session, &row)
         }
         None => Ok(()),
     }
@@ -109,6 +109,10 @@ pub struct PutRecord {
 }
 
 impl<B: ClusterName> Work<B, IndexedTable> for PutRecord {
+    ghost Task = { List ℕ × ℕ };
+
+    ghost task = { λ put. (put.id, put.value) };
+
     ghost does = { λ put transcript. transcript.ops ≡ putting put.id put.had (to_be_bytes w32 put.value) };
 
     fn run<R: Wait>(
@@ -117,13 +121,13 @@ impl<B: ClusterName> Work<B, IndexedTable> for PutRecord {
         alloc: Global,
         session: &mut Session<B, IndexedTable>,
     ) -> Result<(), Refusal> {
-        let record = record_key(alloc, self.id.as_slice())?;
-        self.had = read(rt, alloc, session, &record)?;
+        let row = record_key(alloc, self.id.as_slice())?;
+        self.had = read(rt, alloc, session, &row)?;
         forget(alloc, session, self.id.as_slice(), &self.had)?;
         put(
             alloc,
             session,
-            &record,
+            &row,
             self.id.as_slice(),
             &self.value.to_be_bytes(),
         )
@@ -140,6 +144,10 @@ pub struct RemoveRecord {
 }
 
 impl<B: ClusterName> Work<B, IndexedTable> for RemoveRecord {
+    ghost Task = { List ℕ };
+
+    ghost task = { λ removal. removal.id };
+
     ghost does = { λ removal transcript. transcript.ops ≡ removing removal.id removal.had };
 
     fn run<R: Wait>(
@@ -148,8 +156,8 @@ impl<B: ClusterName> Work<B, IndexedTable> for RemoveRecord {
         alloc: Global,
         session: &mut Session<B, IndexedTable>,
     ) -> Result<(), Refusal> {
-        let record = record_key(alloc, self.id.as_slice())?;
-        self.had = read(rt, alloc, session, &record)?;
+        let row = record_key(alloc, self.id.as_slice())?;
+        self.had = read(rt, alloc, session, &row)?;
         forget(alloc, session, self.id.as_slice(), &self.had)?;
         remove(alloc, session, self.id.as_slice(), &self.had)
     }

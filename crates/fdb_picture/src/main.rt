@@ -1,5 +1,5 @@
-//! Draws a run: of a script and what it printed, on the standard input one behind the other with a line `answers` between
-//! them, it makes a picture, as SVG on the standard output.
+//! Draws a run: of a script and what it printed, on the standard input one behind the other with a line `answers`
+//! between them, it makes a picture, as SVG on the standard output.
 #![tactic(auto)]
 
 use fdb_draw::{Stop, draw};

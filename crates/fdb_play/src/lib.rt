@@ -8,7 +8,7 @@ mod random;
 mod script;
 
 pub use fdb_print::{RefusalLine, Sink, Source, Stop, print_stop};
-pub use play::script::run_script;
+pub use play::script::{run_script, run_script_with_hints};
 pub use print::answers::push_answer;
 pub use random::ended::Ended;
 pub use random::report::Report;

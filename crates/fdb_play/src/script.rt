@@ -1,5 +1,6 @@
 pub mod config_line;
 pub mod fault;
+pub mod hint;
 pub mod keys;
 pub mod line;
 pub mod lines;

@@ -8,7 +8,7 @@ pub use Rattle.fdb_roles.proofs.BookLemmas.{below-last, entries-take, last-above
 pub use Rattle.fdb_roles.proofs.BookLemmas.{horizon-within, last_horizon-push, rise-lower, rise-take}
 pub use Rattle.fdb_roles.proofs.BookLemmas.{seen-before-last}
 pub use Rattle.fdb_roles.proofs.BookLemmas.{seen-front, seen_before-next, take-next, take-take}
-pub use Rattle.fdb_roles.proofs.CommittedLaws.{reads_of_the_committed_stand}
+pub use Rattle.fdb_roles.proofs.CommittedLaws.{answered-at, history-of, reads_of_the_committed_stand}
 pub use Rattle.fdb_roles.proofs.ExtendsLemmas.{Extends, history-earlier, map-extends}
 pub use Rattle.fdb_roles.proofs.FaultLemmas.{answers-by, answers-fault, given-fault, gives, hands-on, lacks-memory}
 pub use Rattle.fdb_roles.proofs.FaultLemmas.{refused-fault}

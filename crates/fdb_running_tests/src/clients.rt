@@ -3,9 +3,10 @@
 ghost use Rattle.std.specs.Prelude.{◌≡◌};
 
 use crate::asserting::same;
-use crate::running::{Done, Host, Named, byte_of, receipt_of, serial_in, thread_of, write};
+use crate::running::{byte_of, receipt_of, serial_in, write};
 use bytes::Bytes;
 use fdb_book::Blank;
+use fdb_hosts::{Done, Host, Named, thread_of};
 use fdb_keys::{Key, Refusal};
 use fdb_making::{both, coded, count_config, keys_of};
 use fdb_mutations::Mutation;

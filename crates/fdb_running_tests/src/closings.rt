@@ -3,8 +3,9 @@ ghost use Rattle.std.specs.Prelude.{◌≡◌};
 
 use crate::asserting::same;
 use crate::gates::wait_for;
-use crate::running::{Done, Host, Named, commit_code, length_of, thread_of, write};
+use crate::running::{commit_code, length_of, write};
 use fdb_book::Blank;
+use fdb_hosts::{Done, Host, Named, thread_of};
 use fdb_keys::Refusal;
 use fdb_making::{both, coded, count_config};
 use fdb_mutations::Mutation;

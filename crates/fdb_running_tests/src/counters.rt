@@ -2,9 +2,10 @@
 ghost use Rattle.std.specs.Prelude.{◌≡◌};
 
 use crate::asserting::same;
-use crate::running::{Done, Host, Named, byte_of, move_keys, receipt_of, thread_of, write};
+use crate::running::{byte_of, move_keys, receipt_of, write};
 use bytes::Bytes;
 use fdb_book::Blank;
+use fdb_hosts::{Done, Host, Named, thread_of};
 use fdb_keys::{Key, Refusal};
 use fdb_making::{both, coded, count_config, keys_of};
 use fdb_mutations::Mutation;

@@ -2,8 +2,9 @@
 ghost use Rattle.std.specs.Prelude.{◌≡◌};
 
 use crate::asserting::same;
-use crate::running::{Done, Host, Named, byte_of, put, two_sessions};
+use crate::running::{byte_of, put, two_sessions};
 use fdb_book::Blank;
+use fdb_hosts::{Done, Host, Named};
 use fdb_keys::Refusal;
 use fdb_making::{coded, count_config, keys_of};
 use fdb_runtime::{ClusterName, Config, Database, Gate, Role, Session};

@@ -1,10 +1,11 @@
-// A database of two of each role, whose clients run in two threads. `examples/refused_growths` runs this where one
+// A database of two of each role, whose clients run in two threads. `tools/refused_growths` runs this where one
 // growth of memory is refused, each time another one.
 ghost use Rattle.std.specs.Prelude.{◌≡◌};
 
 use crate::asserting::same;
-use crate::running::{Host, Named, byte_of, is_serial, receipt_of, two_sessions, write};
+use crate::running::{byte_of, is_serial, receipt_of, two_sessions, write};
 use bytes::Bytes;
+use fdb_hosts::{Host, Named};
 use fdb_keys::{Key, Refusal};
 use fdb_making::{coded, count_config, keys_of};
 use fdb_mutations::Mutation;

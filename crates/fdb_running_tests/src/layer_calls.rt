@@ -1,9 +1,11 @@
 // The calls that who writes a layer looks for.
-ghost use Rattle.std.specs.Prelude.{◌≡◌, ⊤, OnOk, IfSome};
+ghost use Rattle.std.specs.Prelude.{◌≡◌, ⊤, ℕ, OnOk, IfSome};
+ghost use Rattle.fdb_keys.specs.declared.refusal.Refusal.{Refusal as ARefusal};
 ghost use Rattle.fdb_runtime.specs.Works.{IsSameSession, IsStillOpen, IsUntouched};
 
 use crate::asserting::same;
-use crate::running::{Done, Host, Named, byte_of, put, receipt_of, two_sessions};
+use crate::running::{byte_of, put, receipt_of, two_sessions};
+use fdb_hosts::{Done, Host, Named};
 use fdb_keys::{Key, KeyRange, Refusal};
 use fdb_making::{coded, count_config};
 use fdb_runtime::{
@@ -205,6 +207,10 @@ fn count_written<B: ClusterName>(
 }
 
 impl<B: ClusterName> Work<B, Everything> for Clash<B> {
+    ghost Task = { ℕ };
+
+    ghost task = { λ clash. clash.clashes };
+
     ghost does = { λ clash transcript. ⊤ };
 
     fn run<R: Wait>(
@@ -219,6 +225,31 @@ impl<B: ClusterName> Work<B, Everything> for Clash<B> {
             let _spot = put(rt, alloc, &mut self.other, b"n", value.saturating_add(10))?;
         }
         count_written(alloc, session, value.saturating_add(1))
+    }
+}
+
+// Work that is turned down at each run.
+#[derive(Drop)]
+struct Turned {
+    why: Refusal,
+    runs: u32,
+}
+
+impl<B: ClusterName> Work<B, Everything> for Turned {
+    ghost Task = { ARefusal };
+
+    ghost task = { λ turned. turned.why };
+
+    ghost does = { λ turned transcript. ⊤ };
+
+    fn run<R: Wait>(
+        &mut self,
+        _rt: &R,
+        _alloc: Global,
+        _session: &mut Session<B>,
+    ) -> Result<(), Refusal> {
+        self.runs = self.runs.saturating_add(1);
+        Err(self.why)
     }
 }
 
@@ -258,6 +289,18 @@ fn clash_some<B: ClusterName, R: Wait + Abort>(
     Ok(())
 }
 
+// What refuses the work is told: at once, where it isn't tried anew, and else once it was tried so often.
+fn refuse_some<B: ClusterName, R: Wait + Abort>(
+    rt: &R,
+    alloc: Global,
+    session: &mut Session<B>,
+    why: Refusal,
+) -> (Result<(u32, u64), u32>, u32) {
+    let mut work = Turned { why, runs: 0 };
+    let told = told_of(session.transact(rt, alloc, Tries::at_most(3), &mut work));
+    (told, work.runs)
+}
+
 // How many entries are left, and how many logs and shards there are, none of which failed.
 fn shown_by(status: Result<Status, Refusal>) -> Result<(u32, usize, usize, bool), Refusal> {
     let status = status?;
@@ -279,7 +322,10 @@ fn play<B: Named, R: Host>(rt: &R, alloc: Global, database: &mut Database<B>) ->
     let walked = walk(rt, alloc, &mut one);
     let last = coded(last_key(rt, alloc, &mut one));
     let clashed = clash_some(rt, alloc, &mut one, other);
+    let refused = refuse_some(rt, alloc, &mut one, Refusal::BadOperand);
+    let tried_anew = refuse_some(rt, alloc, &mut one, Refusal::TransactionTooOld);
     drop(one);
+    same(rt, (refused, tried_anew), ((Err(9008), 1), (Err(1007), 3)));
     same(rt, empty, Ok((100, 1, 1, true)));
     same(rt, read, Ok([Some(8), None, None, Some(1)]));
     same(rt, last, Ok(Some(4)));

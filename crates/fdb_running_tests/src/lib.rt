@@ -18,11 +18,7 @@ mod growths;
 #[cfg(test)]
 mod layer_calls;
 #[cfg(test)]
-mod layered;
-#[cfg(test)]
 mod moves;
-#[cfg(test)]
-mod queue;
 #[cfg(test)]
 mod reads;
 #[cfg(test)]
@@ -33,8 +29,6 @@ mod sessions;
 mod sizes;
 #[cfg(test)]
 mod stamps;
-#[cfg(test)]
-mod tables;
 #[cfg(test)]
 mod window_changes;
 #[cfg(test)]

@@ -2,8 +2,9 @@
 ghost use Rattle.std.specs.Prelude.{◌≡◌};
 
 use crate::asserting::same;
-use crate::running::{Done, Host, Named, move_keys, put, two_sessions};
+use crate::running::{move_keys, put, two_sessions};
 use fdb_book::Blank;
+use fdb_hosts::{Done, Host, Named};
 use fdb_keys::{KeyRange, Refusal};
 use fdb_making::{code_of, coded, count_config, keys_of};
 use fdb_runtime::{ClusterName, Config, Database, NoGate, Record, Session};

@@ -3,6 +3,7 @@ ghost use Rattle.std.specs.Prelude.{◌≡◌, suc, length};
 ghost use Rattle.fdb_txn.specs.book.History.{IsBook};
 
 use fdb_check::{CheckFault, serial_check};
+use fdb_hosts::Named;
 use fdb_keys::{Key, KeyRange, RangeSet, Refusal, Refused};
 use fdb_making::{are_pairs, are_ranges, both, made_of};
 use fdb_mutations::Mutation;
@@ -11,24 +12,7 @@ use fdb_runtime::{
     Transcript,
 };
 use std::alloc::Global;
-use std::marker::Brand;
-use std::process::Abort;
 use std::sync::Wait;
-use std::thread::Threads;
-use std::time::Clock;
-
-/// What runs a database in threads, tells the time, and stops a test that fails.
-pub(crate) trait Host: Threads + Wait + Abort + Clock + Copy + Send + Sync + Drop + 'static {}
-
-impl<R: Threads + Wait + Abort + Clock + Copy + Send + Sync + Drop + 'static> Host for R {}
-
-/// Names a database that runs.
-pub(crate) trait Named: ClusterName + Send + Sync + 'static {}
-
-impl Named for Brand {}
-
-/// Why a test couldn't go on, if so.
-pub(crate) type Done = Result<(), Refusal>;
 
 /// The next two sessions. What is told to both has them lent, so that no exit on the way drops any. No closure takes
 /// them: the prover doesn't state a bound that names what runs over a database's name.
@@ -136,14 +120,6 @@ pub(crate) fn receipt_of<T, U: Drop>(answer: Result<T, Refused<U>>) -> Result<T,
     match answer {
         Ok(given) => Ok(given),
         Err(refused) => Err(refused.why),
-    }
-}
-
-/// The thread, unless it couldn't be started. What it was to run is dropped then, where its type is a parameter.
-pub(crate) fn thread_of<T, F: Drop>(started: Result<T, F>) -> Result<T, Refusal> {
-    match started {
-        Ok(thread) => Ok(thread),
-        Err(_not_run) => Err(Refusal::NoMemory),
     }
 }
 

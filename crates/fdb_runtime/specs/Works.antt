@@ -1,5 +1,5 @@
 -- What a session promises of work that it runs as a transaction, and what the work promises of the session.
-use Rattle.std.specs.Prelude.{◌≡◌, ◌≤◌, ◌+◌, ◌||◌, ◌&&◌, ◌⊎◌, ℕ, suc, max, Bool, true, List, [], Option, Some, None}
+use Rattle.std.specs.Prelude.{◌≡◌, ◌≤◌, ◌+◌, ◌||◌, ◌&&◌, ℕ, suc, Bool, true, [], Option, Some, None}
 use Rattle.fdb_keys.specs.Retries.{is_retryable, is_maybe_committed}
 use Rattle.fdb_keys.specs.declared.refusal.Refusal.{Refusal}
 use Rattle.fdb_client.specs.declared.program.Transcript.{Transcript}

@@ -15,6 +15,12 @@ use std::sync::Wait;
 
 /// What one transaction does.
 pub trait Work<B: ClusterName, L: Layer> {
+    /// What the work is asked to do, as against what its runs find out.
+    ghost Task: { Type 0 };
+
+    /// What it is asked to do, which no run changes.
+    ghost task: { Self → Task };
+
     /// What the transcript of a run that isn't refused is like, said of the work as the run leaves it.
     ghost does: { Self → ATranscript → Type 0 };
 
@@ -28,6 +34,7 @@ pub trait Work<B: ClusterName, L: Layer> {
         session: &mut Session<Layered<B, L>>,
     ) -> Result<(), Refusal>
         requires begun { IsUntouched session.old.current }
+        ensures kept { task self.new ≡ task self.old }
         ensures same { IsSameSession session.old session.new }
         ensures open { OnOk result (IsStillOpen session.old.current session.new.current) }
         ensures allowed { OnOk result (IfSome session.new.current L.allows) }
@@ -75,14 +82,17 @@ impl Tries {
 
 impl<B: ClusterName, L: Layer> Session<Layered<B, L>> {
     /// Runs the work in a transaction of its own, commits that, and gives its receipt. Where it is refused as
-    /// `NotCommitted` or `TransactionTooOld`, be it at the commit or in the work, it is tried anew in another one, as
-    /// long as it wasn't tried so often as `tries` says. One that was open is abandoned, and none is open afterwards.
+    /// `NotCommitted`, `TransactionTooOld` or `FutureVersion`, be it at the commit or in the work, it is tried anew in
+    /// another one, as long as it wasn't tried so often as `tries` says. One that was open is abandoned, and none is
+    /// open afterwards.
     ///
     /// A receipt is that of the last try's transaction, whose transcript is such as the work says of itself; no other
-    /// try has any effect, but for those of which that isn't known. Refused as the work is, and as `begin` and as
-    /// `commit` are. After `CommitUnknownResult` the last try may have been committed or not: it is handed out at once,
-    /// or tried anew by work that finds out by itself. After every other refusal no try has any effect, but for those.
-    /// It takes the time of its tries.
+    /// try has any effect, but for those of which that isn't known. Whatever comes of it, the work is asked to do what
+    /// it was.
+    ///
+    /// Refused as the work is, and as `begin` and as `commit` are. After `CommitUnknownResult` the last try may have
+    /// been committed or not: it is handed out at once, or tried anew by work that finds out by itself. After every
+    /// other refusal no try has any effect, but for those. It takes the time of its tries.
     pub fn transact<W: Work<B, L>, R: Wait>(
         &mut self,
         rt: &R,
@@ -90,6 +100,7 @@ impl<B: ClusterName, L: Layer> Session<Layered<B, L>> {
         tries: Tries,
         work: &mut W,
     ) -> Result<Receipt<Layered<B, L>>, Refusal>
+        ensures kept { W.task work.new ≡ W.task work.old }
         ensures tried { HasTried (max 1 tries.most) self.old self.new }
         ensures receipt { IfOk result (λ receipt. HasCommitted (W.does work.new) self.old receipt self.new) }
         ensures refused { IfErr result (λ why.
@@ -111,9 +122,11 @@ impl<B: ClusterName, L: Layer> Session<Layered<B, L>> {
         alloc: Global,
         work: &mut W,
     ) -> Result<Receipt<Layered<B, L>>, Refusal>
+        ensures kept { W.task work.new ≡ W.task work.old }
         ensures tried { HasTried 1 self.old self.new }
         ensures receipt { IfOk result (λ receipt. HasCommitted (W.does work.new) self.old receipt self.new) }
-        ensures refused { IfErr result (λ why. ((self.new.next_number ≡ self.old.next_number) × (is_of_begin why ≡ true))
+        ensures refused { IfErr result (λ why.
+            ((self.new.next_number ≡ self.old.next_number) × (is_of_begin why ≡ true))
             ⊎ (self.new.next_number ≡ suc self.old.next_number)) }
     {
         self.abandon();
@@ -131,6 +144,7 @@ impl<B: ClusterName, L: Layer> Session<Layered<B, L>> {
         work: &mut W,
     ) -> Result<Receipt<Layered<B, L>>, Refusal>
         requires begun { IsUntouched self.old.current }
+        ensures kept { W.task work.new ≡ W.task work.old }
         ensures same { IsSameSession self.old self.new }
         ensures receipt { IfOk result (λ receipt. (IfSome self.old.current (λ transcript.
             receipt.transcript.id ≡ transcript.id)) × (W.does work.new receipt.transcript)

@@ -14,7 +14,8 @@ pub record ReadVersionMachine (B W : Type 0) : Type 0 where
 abbrev pub granting : {B W : Type 0} → ReadVersionMachine B W → GrantReply B → ReadVersionMachine B W
 granting it answer = record it { answer = Some answer; granted = length it.waiting }
 
--- one is told the answer, or that memory ran out for a share of it
+-- one is told the answer, and of a version alone it may be told that memory ran out for a share of its front
 abbrev pub IsTold : {B : Type 0} → Option (GrantReply B) → GrantReply B → Type 0
 IsTold None told = told ≡ reply.Refused Failed
-IsTold (Some answer) told = (told ≡ answer) ⊎ (told ≡ reply.Refused NoMemory)
+IsTold (Some (reply.Refused why)) told = told ≡ reply.Refused why
+IsTold (Some (reply.Granted granted)) told = (told ≡ reply.Granted granted) ⊎ (told ≡ reply.Refused NoMemory)

@@ -3,6 +3,7 @@ ghost use Rattle.fdb_keys.specs.Answers.{Answers};
 ghost use Rattle.fdb_mutations.specs.Pairs.{pairs_in};
 ghost use Rattle.fdb_txn.specs.book.Book.{last_version};
 ghost use Rattle.fdb_txn.specs.book.History.{IsBook, AreEntries};
+ghost use Rattle.fdb_roles.specs.Layers.{IsBookOf};
 ghost use Rattle.fdb_sections.specs.Asking.{HoldsOnRun};
 ghost use Rattle.fdb_sections.specs.LentShards.{lent_shards, lending_fault};
 ghost use Rattle.fdb_sections.specs.Reading.{RefusedBy};
@@ -138,6 +139,14 @@ impl<B: DatabaseName> Record<B> {
         ensures serial { result.now ≡ pairs_in (run_of B.config self.now.committed self.now.front) every_key false }
     {
         self.pairs.as_slice()
+    }
+
+    /// Says that the front is a book of transactions that the database allows, each answered as on the serial map at its
+    /// read version, and does nothing else. It takes no memory, and O(1) time.
+    pub fn know_allowed(&self)
+        ensures { ∥ IsBookOf B.allows B.config.resolver_splits self.now.front ∥₁ }
+    {
+        self.front.know_allowed();
     }
 }
 

@@ -13,7 +13,7 @@ use self::task::{Schedule, Task, read_task};
 use clap::Error;
 use clap::error::ErrorKind;
 use fdb_load::run_threads;
-use fdb_play::{Sink, Source, run_random, run_script};
+use fdb_play::{Sink, Source, run_random, run_script_with_hints};
 use fdb_simulate::run_simulation;
 use std::alloc::Global;
 use std::io;
@@ -29,12 +29,14 @@ const HELPED: u8 = 0;
 
 /// Runs the command that the words give, which are those after the program's own name, and answers the
 /// status. `run` runs the script that the reader gives, `random` steps that are drawn from a seed, `threads` clients of
-/// a database in threads, and `simulate` clients of such a database in one thread; each prints to `out`, and how far
-/// `random` and `threads` are goes to `err` where it is asked for.
+/// a database in threads, and `simulate` clients of such a database in one thread; each prints to `out`. How far
+/// `random` and `threads` are goes to `err` where it is asked for, and so does what a line of a script that is none may
+/// be meant for.
 ///
-/// Words that ask for help print it to `out`, with status 0. Others that give no command print what is wrong
-/// with them to `err`, with status 2 and nothing on `out`. Where memory runs out while they are read it does so too,
-/// and prints `error: out of memory`. A read or a write that fails is answered as that error, and no other error is.
+/// Words that ask for help or for the version print it to `out`, with status 0. Others that give no command print what
+/// is wrong with them to `err`, with status 2 and nothing on `out`. Where memory runs out while they are read it does
+/// so too, and prints `error: out of memory`. A read or a write that fails is answered as that error, and no other
+/// error is.
 pub fn run_words<
     R: Threads + Wait + Clock + Copy + Send + Sync + 'static,
     I: Source,
@@ -56,7 +58,7 @@ pub fn run_words<
         (IsStreamError (IsLimitedError I.errors) (IsStreamError O.errors E.errors)) }
 {
     match read_task(alloc, words) {
-        Ok(Task::Run) => run_script(alloc, reader, out),
+        Ok(Task::Run) => run_script_with_hints(alloc, reader, out, err),
         Ok(Task::Random(schedule)) => draw(rt, alloc, &schedule, out, err),
         Ok(Task::Threads(load)) => run_threads(rt, alloc, &load, out, err),
         Ok(Task::Simulate(asked)) => run_simulation(alloc, &asked, out),

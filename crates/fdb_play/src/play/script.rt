@@ -16,6 +16,7 @@ use crate::print::answers::{push_refusal, push_result};
 use crate::print::endings::print_check;
 use crate::script::config_line::read_config;
 use crate::script::fault::Fault;
+use crate::script::hint::{print_config_hint, print_line_hint};
 use crate::script::line::{Line, read_line};
 use crate::script::lines::Lines;
 use crate::script::step_line::Kind;
@@ -43,24 +44,51 @@ pub fn run_script<R: Source, W: Sink>(
         Knows (R.remaining reader.old) (λ lines. Plays 0 lines printed status))) }
     ensures errors { IfErr result (IsStreamError (IsLimitedError R.errors) W.errors) }
 {
+    let mut unread: Vec<u8> = Vec::new(alloc);
+    run_script_with_hints(alloc, reader, writer, &mut unread)
+}
+
+/// The same, and where a line is none of the grammar it tells on `hints` what such a line is like. Whether that can be
+/// told changes nothing.
+pub fn run_script_with_hints<R: Source, W: Sink, H: Sink>(
+    alloc: Global,
+    reader: &mut R,
+    writer: &mut W,
+    hints: &mut H,
+) -> Result<u8, io::Error>
+    ensures bound { IfOk result (λ status. status ≤ 2) }
+    ensures printed { IfOk result (λ status. Printed (W.contents writer.old) (W.contents writer.new) (λ printed.
+        Knows (R.remaining reader.old) (λ lines. Plays 0 lines printed status))) }
+    ensures errors { IfErr result (IsStreamError (IsLimitedError R.errors) W.errors) }
+{
     let mut limited = Limited::new(reader);
-    play(alloc, &mut limited, writer)
+    play(alloc, &mut limited, writer, hints)
 }
 
 // The same of a reader that gives itself up. It answers no error but of its reader and its writer, whatever they are.
-fn play<R: Source, W: Sink>(alloc: Global, reader: &mut R, writer: &mut W) -> Result<u8, io::Error>
+fn play<R: Source, W: Sink, H: Sink>(
+    alloc: Global,
+    reader: &mut R,
+    writer: &mut W,
+    hints: &mut H,
+) -> Result<u8, io::Error>
     ensures bound { IfOk result (λ status. status ≤ 2) }
     ensures printed { IfOk result (λ status. Printed (W.contents writer.old) (W.contents writer.new) (λ printed.
         Knows (R.remaining reader.old) (λ lines. Plays 0 lines printed status))) }
     ensures errors { IfErr result (IsStreamError R.errors W.errors) }
 {
-    match run_to_end(alloc, reader, writer) {
+    match run_to_end(alloc, reader, writer, hints) {
         Ok(status) => Ok(status),
         Err(stop) => print_stop(stop, writer),
     }
 }
 
-fn run_to_end<R: Source, W: Sink>(alloc: Global, reader: &mut R, writer: &mut W) -> Result<u8, Stop>
+fn run_to_end<R: Source, W: Sink, H: Sink>(
+    alloc: Global,
+    reader: &mut R,
+    writer: &mut W,
+    hints: &mut H,
+) -> Result<u8, Stop>
     ensures bound { IfOk result (λ status. status < 2) }
     ensures printed { IfOk result (λ status. Printed (W.contents writer.old) (W.contents writer.new) (λ printed.
         Knows (R.remaining reader.old) (λ lines. Plays 0 lines printed status))) }
@@ -70,9 +98,9 @@ fn run_to_end<R: Source, W: Sink>(alloc: Global, reader: &mut R, writer: &mut W)
     ensures errors { IfErr result (FailsWith (IsStreamError R.errors W.errors)) }
 {
     let mut lines = Lines::new(alloc, reader)?;
-    let config = first_config(alloc, &mut lines)?;
+    let config = config_or_hint(alloc, &mut lines, hints)?;
     let world = greet(make_world(alloc, config)?, writer)?;
-    play_on(alloc, &mut lines, world, writer)
+    play_on(alloc, &mut lines, world, writer, hints)
 }
 
 // Prints that the configuration was taken, and gives the world back.
@@ -93,11 +121,12 @@ fn greet<W: Sink>(world: World, writer: &mut W) -> Result<World, Stop>
 }
 
 // Takes the steps of the lines that are left, and lets the world go.
-fn play_on<R: Source + Drop, W: Sink>(
+fn play_on<R: Source + Drop, W: Sink, H: Sink>(
     alloc: Global,
     lines: &mut Lines<R>,
     world: World,
     writer: &mut W,
+    hints: &mut H,
 ) -> Result<u8, Stop>
     ensures bound { IfOk result (λ status. status < 2) }
     ensures printed { IfOk result (λ status. Printed (W.contents writer.old) (W.contents writer.new) (λ printed.
@@ -111,7 +140,29 @@ fn play_on<R: Source + Drop, W: Sink>(
     let mut world = world;
     let ended = take_steps(alloc, lines, &mut world, writer);
     drop(world);
+    if let Err(Stop::BadLine(number)) = &ended {
+        drop(print_line_hint(*number, lines.text(), hints));
+    }
     ended
+}
+
+// The configuration. Where the line is none, it tells what one is like.
+fn config_or_hint<R: Source + Drop, H: Sink>(
+    alloc: Global,
+    lines: &mut Lines<R>,
+    hints: &mut H,
+) -> Result<Config, Stop>
+    ensures ok { IfOk result (λ config. Reaches (left R.remaining lines.old) (left R.remaining lines.new) []
+        (Plays (line_number lines.old)) (PlaysFrom (line_number lines.new) config)) }
+    ensures stops { IfErr result (λ stop. Says stop (λ last.
+        Knows (left R.remaining lines.old) (λ all. Plays (line_number lines.old) all last 2))) }
+    ensures errors { IfErr result (FailsWith R.errors) }
+{
+    let config = first_config(alloc, lines);
+    if let Err(Stop::BadLine(number)) = &config {
+        drop(print_config_hint(*number, hints));
+    }
+    config
 }
 
 // The configuration, which stands in the first line that says anything.

@@ -65,11 +65,15 @@ threads_command workloads = with_rule (with_rule (with_sizes (new_app (codes "th
     (option (codes "workload") (codes "ring") workloads))
     (flag (codes "progress"))
 
--- the program's name is not among the words, and one command must be given
+-- the program's name is not among the words, one command must be given, and there is a version to ask for
 abbrev pub named : App
 named =
     record (new_app (codes "fdb_sim")) {
-      top = record (new_app (codes "fdb_sim")).top { no_binary_name = true; subcommand_required = true };
+      top = record (new_app (codes "fdb_sim")).top {
+        no_binary_name = true;
+        subcommand_required = true;
+        has_version = true;
+      };
     }
 
 abbrev pub commands : ValueParser → App

@@ -13,6 +13,27 @@ use std::alloc::Global;
 /// The names of the workloads, as the words have them.
 static WORKLOADS: [&str; 3] = ["ring", "transfers", "counters"];
 
+/// What `--version` prints behind the program's name.
+const VERSION: &str = "0.1.0";
+
+const RUN_HELP: &str =
+    "The lines, of which the first is `config`; empty ones and those that begin with # say nothing:
+  config proxies N logs N resolvers SPLITS shards SPLITS book N
+  ask S P, grant P                                 session S begins a transaction by read-version proxy P
+  get S K, range S B E LIMIT [reverse]             it reads; by sget and srange it reads a snapshot
+  write S set K X, write S clear K, write S clearrange B E, write S stamped K X OFFSET
+  write S OP K X                                   OP is add, and, or, xor, max, min, bytemin, bytemax or cac
+  addread S B E, addwrite S B E                    it adds a range to its read set or its write set
+  submit S P                                       it asks commit proxy P to commit
+  seal P A, resolve I R, verdict I R, decide P, push I L, logged I L, report P, answer P
+                                                   the batch of P becomes entry I, A versions behind the last one;
+                                                   resolver R and log L take their parts of it
+  drive P                                          all of these at once, from `resolve` on
+  pull H N, forget H V, pop H                      shard H applies, forgets and drops
+  move B E R, window W                             keys go over to resolver R; the window changes
+  show S, conflict S                               print the sets of a session's transaction
+Keys and values are letters, digits, '.', '_' and '/', or bytes as %00; % alone is the empty one.";
+
 const RANDOM_HELP: &str = "The line's keys:
   aborted       transactions that were in conflict or too old
   acknowledged  transactions that were told their spot
@@ -65,6 +86,7 @@ pub(super) fn commands<'a>(alloc: Global) -> Result<Command<'a>, Error>
 {
     let command = Command::new(alloc, "fdb_sim")
         .about("Runs steps of a transaction system and prints what each answers")
+        .version(VERSION)
         .no_binary_name(true)
         .subcommand_required(true);
     let command = with_command(command, run_command(alloc))?;
@@ -76,7 +98,10 @@ pub(super) fn commands<'a>(alloc: Global) -> Result<Command<'a>, Error>
 fn run_command<'a>(alloc: Global) -> Command<'a>
     ensures { app_of result ≡ run_command }
 {
-    Command::new(alloc, "run").about("Runs the script on standard input")
+    Command::new(alloc, "run")
+        .about("Runs the script on standard input")
+        .override_usage("fdb_sim run")
+        .after_help(RUN_HELP)
 }
 
 fn random_command<'a>(alloc: Global) -> Result<Command<'a>, Error>
@@ -85,6 +110,7 @@ fn random_command<'a>(alloc: Global) -> Result<Command<'a>, Error>
 {
     let command = Command::new(alloc, "random")
         .about("Runs steps that are drawn from a seed, and prints a line of JSON")
+        .override_usage("fdb_sim random [OPTIONS]")
         .after_help(RANDOM_HELP);
     let command = with_schedule(alloc, command)?;
     with_argument(command, progress(alloc))
@@ -114,6 +140,7 @@ fn threads_command<'a>(alloc: Global) -> Result<Command<'a>, Error>
 {
     let command = Command::new(alloc, "threads")
         .about("Runs clients in threads, checks what they did, and prints a line of JSON")
+        .override_usage("fdb_sim threads [OPTIONS]")
         .after_help(THREADS_HELP);
     let command = with_sizes(alloc, command)?;
     let workload = option(alloc, "workload", "ring", workload_parser()).help(
@@ -147,6 +174,7 @@ fn simulate_command<'a>(alloc: Global) -> Result<Command<'a>, Error>
         .about(
             "Runs clients and roles in one thread by a seed, checks them, and prints a line of JSON",
         )
+        .override_usage("fdb_sim simulate [OPTIONS]")
         .after_help(SIMULATE_HELP);
     let command = with_schedule(alloc, command)?;
     let clients = option(alloc, "clients", "8", value_parser!(u32).range(1..=64)).help(

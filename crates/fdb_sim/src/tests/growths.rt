@@ -1,4 +1,4 @@
-// Six scripts, of each of which memory may run out at any growth. `examples/refused_growths` runs this with
+// Six scripts, of each of which memory may run out at any growth. `tools/refused_growths` runs this with
 // each growth refused in turn.
 use crate::tests::tables::{Played, batches, moves, ranges, read_table, resolvers, shards};
 use fdb_play::run_script;

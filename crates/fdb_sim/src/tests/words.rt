@@ -66,7 +66,6 @@ const BAD_WORDS: &[&[&str]] = &[
     &["simulate", "--steps", "0"],
     &["simulate", "--clients", "65"],
     &["simulate", "--txns", "1"],
-    &["--version", "run"],
 ];
 
 #[test]
@@ -89,12 +88,25 @@ fn help(rt: HostRuntime) {
     }
 }
 
+#[test]
+fn version(rt: HostRuntime) {
+    for word in ["--version", "-V"] {
+        let ended = run_on(&rt, rt.alloc(), &[word, "run"], b"");
+        assert!(rt; has_status(&ended, 0));
+        assert!(rt; ended.err.is_empty());
+        assert!(rt; ended.out.as_slice() == b"fdb_sim 0.1.0\n".as_slice());
+    }
+}
+
 // What the help of a command says.
 const HELP: &[(&str, &[u8])] = &[
+    ("run", b"write S set K X"),
+    ("run", b"Usage: fdb_sim run\n"),
     ("random", b"acknowledged"),
     ("random", b"--seed"),
     ("threads", b"32 accounts with 1,000 each"),
     ("threads", b"--workload"),
+    ("threads", b"Usage: fdb_sim threads [OPTIONS]\n"),
     ("simulate", b"unexplained"),
     ("simulate", b"--resolvers"),
 ];
@@ -152,5 +164,38 @@ fn runs_a_script(rt: HostRuntime) {
     let ended = run_on(&rt, rt.alloc(), &["run"], b"# nothing\nask");
     assert!(rt; has_status(&ended, 2));
     assert!(rt; ended.out.as_slice() == b"bad line 2\n".as_slice());
-    assert!(rt; ended.err.is_empty());
+    assert!(rt;
+        has_text(
+            ended.err.as_slice(),
+            b"line 2 is the first one, which has to be:\n  config proxies N"
+        )
+    );
+}
+
+const BEGUN: &[u8] = b"config proxies 1 logs 1 resolvers - shards - book 9\n";
+
+// What the lines of a script print behind the first one, and what is told of the last one.
+const HINTS: &[(&[u8], &[u8], &[u8])] = &[
+    (b"set 0 a 1", b"bad line 2\n", b"  write S set K X\n"),
+    (
+        b"ask 0 0\nwrite 0 a 1",
+        b"ok\nbad line 3\n",
+        b"  write S clear K\n",
+    ),
+    (b"walk 0", b"bad line 2\n", b"'run --help'"),
+];
+
+// A line that is none of the grammar is answered as ever, and what it may be meant for is told beside that.
+#[test]
+fn bad_lines_are_told_what_they_may_be_meant_for(rt: HostRuntime) -> Result<(), Fail> {
+    for (lines, printed, hint) in HINTS {
+        let mut script: Vec<u8> = Vec::new(rt.alloc());
+        script.extend_from_slice(BEGUN)?;
+        script.extend_from_slice(lines)?;
+        let ended = run_on(&rt, rt.alloc(), &["run"], script.as_slice());
+        assert!(rt; has_status(&ended, 2));
+        assert!(rt; ended.out.as_slice().strip_prefix(b"ok\n".as_slice()) == Some(*printed));
+        assert!(rt; has_text(ended.err.as_slice(), hint));
+    }
+    Ok(())
 }

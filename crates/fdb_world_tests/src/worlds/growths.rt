@@ -1,4 +1,4 @@
-// A world whose steps go on where memory runs out in one of them. `examples/refused_growths` runs this where one growth
+// A world whose steps go on where memory runs out in one of them. `tools/refused_growths` runs this where one growth
 // of memory is refused, each time another one.
 use super::acts::{Act, Call, take};
 use super::checks::{AFTER, BEFORE};

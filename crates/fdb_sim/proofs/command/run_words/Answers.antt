@@ -17,10 +17,10 @@ returns-in-Ok-Run-clause-obeys g c =
     let given = c.in-Ok-Run in
     let asked = subst (λ (task : Task). Asks (map (λ word. word.now) c.args.words.now) (Ok task)) given.field-0-is
     given.ensures in
-    IfOk-weaker c.run_script.result _ _ (λ status played. plays (map (λ word. word.now) c.args.words.now)
+    IfOk-weaker c.run_script_with_hints.result _ _ (λ status played. plays (map (λ word. word.now) c.args.words.now)
     (g.I.Source.remaining c.args.reader.now) (g.O.Sink.contents c.args.out.now)
-    (g.O.Sink.contents c.run_script.new.writer) (g.E.Sink.contents c.args.err.now) (g.E.Sink.contents c.args.err.now)
-    status asked played) c.run_script.ensures.printed
+    (g.O.Sink.contents c.run_script_with_hints.new.writer) (g.E.Sink.contents c.args.err.now)
+    (g.E.Sink.contents c.run_script_with_hints.new.hints) status asked played) c.run_script_with_hints.ensures.printed
 
 pub returns-in-Ok-Random-clause-obeys : goal.returns-in-Ok-Random-clause-obeys
 returns-in-Ok-Random-clause-obeys g c =

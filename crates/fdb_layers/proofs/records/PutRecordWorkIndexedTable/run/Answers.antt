@@ -7,7 +7,7 @@ use Rattle.fdb_layers.proofs.records.PutRecordWorkIndexedTable.run.Given as give
 use Rattle.fdb_layers.proofs.records.PutRecordWorkIndexedTable.run.Goals as goal
 
 -- the whole put is done, once the last part of it is
-done : (g : given.Over) (c : goal.Joined-record-3 g)
+done : (g : given.Over) (c : goal.Joined-row-3 g)
     → DoesMore c.forget.new.session.current (setting c.as_slice-3.result.now c.to_be_bytes.result)
     c.put.new.session.current
     → HasDone c.put.new.session.current
@@ -17,8 +17,8 @@ done g c puts =
     let second : c.as_slice-2.result.now ≡ c.args.self.now.id = search rules in
     let third : c.as_slice-3.result.now ≡ c.args.self.now.id = search rules in
     let bytes : c.to_be_bytes.result ≡ to_be_bytes w32 c.args.self.now.value = search rules in
-    put-done c.args.session.now.current c.read.new.session.current c.forget.new.session.current c.in_ok-record.record
-    c.as_slice.result.now c.as_slice-2.result.now c.args.self.now.id c.in_ok-self.field-0 c.in_ok-record.ensures first
+    put-done c.args.session.now.current c.read.new.session.current c.forget.new.session.current c.in_ok-row.row
+    c.as_slice.result.now c.as_slice-2.result.now c.args.self.now.id c.in_ok-self.field-0 c.in_ok-row.ensures first
     second c.requires.begun c.in_ok-self.ensures.reads c.in_ok-forget.ensures.forgets c.put.new.session.current
     c.as_slice-3.result.now c.to_be_bytes.result (to_be_bytes w32 c.args.self.now.value) third bytes puts
 
