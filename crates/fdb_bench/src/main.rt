@@ -4,6 +4,7 @@
 mod answered;
 mod client;
 mod commit;
+mod layers;
 mod log;
 mod numbers;
 mod resolver;
@@ -13,10 +14,13 @@ mod serial;
 mod sets;
 mod storage;
 
-use crate::numbers::{Fault, number_of, operations_of};
+use crate::layers::Beside;
+use crate::numbers::{Fault, number_of, operations_of, transactions_of};
 use std::env;
 use std::process::ExitCode;
-use std::time::Duration;
+use std::sync::Wait;
+use std::thread::Threads;
+use std::time::{Clock, Duration};
 
 const USAGE: &str = "fdb_bench resolver ITEMS PERCENT
     A resolver takes so many items in batches of 100, each with a read range and a write range. So many percent of them,
@@ -41,10 +45,14 @@ fdb_bench sealed MUTATIONS
     So many sets of a key each are sealed as one transaction.
 fdb_bench answered OPERATIONS
     The transcript of so many operations, half of them gets of 1,000 keys and half sets, is compared with its map.
+fdb_bench layers TRANSACTIONS
+    A session of a running database pushes so many items on a queue of at most 100, and pops as many; it updates so many
+    of a table's 100 records, and finds as many values by the index, of ten records each. Each is done by the layer's
+    work, and then by bare calls.
 ";
 
 fn main(rt: HostRuntime) -> ExitCode {
-    match run(&rt) {
+    match run(&rt, &rt) {
         Ok(()) => ExitCode::SUCCESS,
         Err(fault) => {
             let _ = eprintln!(rt; "fdb_bench: {fault}");
@@ -53,15 +61,31 @@ fn main(rt: HostRuntime) -> ExitCode {
     }
 }
 
-// Measures what the process's words say, or prints what can be measured.
-fn run(rt: &HostRuntime) -> Result<(), Fault> {
+// Measures what the process's words say, or prints what can be measured. A database's threads are started and waited for
+// by the second handle.
+fn run<R: Threads + Wait + Clock + Copy + Send + Sync + 'static>(
+    rt: &HostRuntime,
+    threads: &R,
+) -> Result<(), Fault> {
     let alloc = rt.alloc();
     let args: Vec<String> = env::args(rt)?.skip(1).collect(alloc)?;
     let words: Vec<&str> = args.iter().map(|word| word.as_str()).collect(alloc)?;
-    obey(rt, words.as_slice())
+    obey(rt, threads, words.as_slice())
 }
 
-fn obey(rt: &HostRuntime, words: &[&str]) -> Result<(), Fault> {
+fn obey<R: Threads + Wait + Clock + Copy + Send + Sync + 'static>(
+    rt: &HostRuntime,
+    threads: &R,
+    words: &[&str],
+) -> Result<(), Fault> {
+    match words {
+        ["layers", transactions] => run_layers(rt, threads, transactions),
+        _ => obey_alone(rt, words),
+    }
+}
+
+// The same of what is measured with no database.
+fn obey_alone(rt: &HostRuntime, words: &[&str]) -> Result<(), Fault> {
     match words {
         ["resolver", items, percent] => run_resolver(rt, items, percent),
         ["commit", resolvers, batch, transactions, moves] => {
@@ -192,6 +216,45 @@ fn run_answered(rt: &HostRuntime, operations: &str) -> Result<(), Fault> {
     let operations = operations_of(operations)?;
     let took = answered::measure(rt, rt.alloc(), operations)?;
     report(rt, "answered", &[("operations", operations)], took)
+}
+
+fn run_layers<R: Threads + Wait + Clock + Copy + Send + Sync + 'static>(
+    rt: &HostRuntime,
+    threads: &R,
+    transactions: &str,
+) -> Result<(), Fault> {
+    let transactions = transactions_of(transactions)?;
+    let queue = layers::measure_queue(threads, rt.alloc(), transactions)?;
+    let names = [
+        "layers push",
+        "layers push bare",
+        "layers pop",
+        "layers pop bare",
+    ];
+    report_beside(rt, names, transactions, &queue)?;
+    let table = layers::measure_table(threads, rt.alloc(), transactions)?;
+    let names = [
+        "layers update",
+        "layers update bare",
+        "layers find",
+        "layers find bare",
+    ];
+    report_beside(rt, names, transactions, &table)
+}
+
+// Reports what a layer's transactions take by work and by bare calls, first those that put, and then those that get.
+fn report_beside(
+    rt: &HostRuntime,
+    names: [&str; 4],
+    transactions: u32,
+    beside: &Beside,
+) -> Result<(), Fault> {
+    let Beside { by_work, bare } = beside;
+    let numbers = [("transactions", transactions)];
+    report(rt, names[0], &numbers, by_work.putting)?;
+    report(rt, names[1], &numbers, bare.putting)?;
+    report(rt, names[2], &numbers, by_work.getting)?;
+    report(rt, names[3], &numbers, bare.getting)
 }
 
 // Prints one line of JSON: what was measured, its numbers, and the time in microseconds.

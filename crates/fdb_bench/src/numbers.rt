@@ -31,6 +31,8 @@ pub(crate) enum Fault {
     Miscounted,
     #[error("a transcript was not answered as on its map")]
     NotAnswered,
+    #[error("a layer's work and bare calls did not get the same, or got too little")]
+    NotGot,
 }
 
 /// The number that the word gives, if it is at most 10,000,000.
@@ -42,6 +44,12 @@ pub(crate) fn number_of(word: &str) -> Result<u32, Fault> {
 /// and a transaction that has more is too large anyhow.
 pub(crate) fn operations_of(word: &str) -> Result<u32, Fault> {
     number_up_to(word, 1_000_000)
+}
+
+/// How many transactions of a kind a running database commits by the word, if it is at most 500,000: its book has room for
+/// those of two kinds.
+pub(crate) fn transactions_of(word: &str) -> Result<u32, Fault> {
+    number_up_to(word, 500_000)
 }
 
 fn number_up_to(word: &str, greatest: u32) -> Result<u32, Fault> {

@@ -33,6 +33,8 @@ struct Progress {
     given: Items<(Key, Bytes)>,
     // What is left of the range.
     left: KeyRange,
+    // How many pairs the last page was asked for, and all of them at 0.
+    asked: u32,
 }
 
 // How a range is read: after these writes, up to a limit, from which end.
@@ -50,17 +52,6 @@ impl<'a> RangeRead<'a> {
         ensures { result ≡ is_limit_reached self.now.limit given.now }
     {
         self.limit != 0 && given.len() == self.limit as usize
-    }
-
-    // How many pairs to ask for: what the limit leaves, or 0 for all of them.
-    fn room(&self, given: &Items<(Key, Bytes)>) -> u32
-        requires { IsWithin self.now.limit given.now }
-        ensures { result ≡ self.now.limit - length given.now }
-    {
-        match self.limit {
-            0 => 0,
-            limit => limit - given.len() as u32,
-        }
     }
 
     // The next entry of the walk, if it comes before the next key, or if there is no such key.
@@ -253,7 +244,8 @@ impl<'a> RangeRead<'a> {
         }
     }
 
-    // Takes the next page of what is left. Whether the read goes on then.
+    // Takes the next page of what is left. Whether the read goes on then. It is asked for twice as many pairs as the
+    // page before, of which own writes hid some, so that however many they hide, few pages are asked for.
     fn take_page<S: Snapshot>(&self, snapshot: &S, progress: &mut Progress) -> Result<bool, Refusal>
         requires legal_keys { HasLegalKeys self.now.own.now }
         requires within { IsWithin self.now.limit progress.old.given }
@@ -264,7 +256,9 @@ impl<'a> RangeRead<'a> {
             → ReadsPage (left_at self.now.own.now) (S.map snapshot.now) range self.now.reverse self.now.limit
             progress.old.left progress.new.given progress.new.left more) }
     {
-        let page = snapshot.page(&progress.left, self.room(&progress.given), self.reverse)?;
+        let asked = progress.asked.saturating_mul(2);
+        progress.asked = asked;
+        let page = snapshot.page(&progress.left, asked, self.reverse)?;
         let more = self.merge_page(progress, &page);
         drop(page);
         more
@@ -311,6 +305,7 @@ impl<'a> RangeRead<'a> {
         let mut progress = Progress {
             given: Items::new(self.alloc),
             left,
+            asked: self.limit,
         };
         match self.take_all(snapshot, &mut progress, page) {
             Ok(()) => Ok(progress.given),
@@ -338,7 +333,8 @@ fn give(given: &mut Items<(Key, Bytes)>, text: &Bytes, value: Option<Bytes>) -> 
 // limit allows, or all of them where it is 0.
 // It goes once over the own writes, beside the pages: for n pairs and own writes that it comes by it takes O(n) steps
 // on the average, for each page a search for the first and the last own write of what is left, and where ranges were
-// cleared, for each pair of a page that has no own write a search among these.
+// cleared, for each pair of a page that has no own write a search among these. Where own writes hide n pairs, it asks
+// for O(log n) pages.
 pub(crate) fn pairs_of<S: Snapshot>(
     alloc: Global,
     own: &OwnWrites,

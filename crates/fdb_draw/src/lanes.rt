@@ -22,55 +22,16 @@ pub type Party = (Role, u32);
 /// Parties in the order of their lanes.
 pub type Parties = BTreeSet<Party>;
 
-/// Who sends or takes something in a step.
-#[derive(Clone, Copy)]
-pub enum End {
-    Nobody,
-    /// The one of the role that the word at this place numbers.
-    Named(Role, usize),
-    Sequencer,
-    /// The commit proxy that sealed the entry that the step names.
-    Sealer,
-    /// The shard that owns the keys that the step names.
-    Owner,
-    /// The log of the shard that the step names.
-    Source,
-}
-
-/// Who sends and who takes what a step of this verb sends, but for the sessions that its answer names.
-pub fn ends_of(verb: &str) -> (End, End) {
-    let session = End::Named(Role::Session, 1);
-    let proxy = End::Named(Role::CommitProxy, 1);
-    let resolver = End::Named(Role::Resolver, 2);
-    match verb {
-        "ask" => (session, End::Named(Role::ReadProxy, 2)),
-        "grant" => (End::Named(Role::ReadProxy, 1), End::Nobody),
-        "get" | "sget" | "range" | "srange" => (session, End::Owner),
-        "write" | "addread" | "addwrite" | "show" | "conflict" => (session, End::Nobody),
-        "submit" => (session, End::Named(Role::CommitProxy, 2)),
-        "seal" | "report" => (proxy, End::Sequencer),
-        "decide" | "answer" | "drive" => (proxy, End::Nobody),
-        "resolve" => (resolver, End::Nobody),
-        "verdict" => (resolver, End::Sealer),
-        "push" => (End::Sealer, End::Named(Role::Log, 2)),
-        "logged" => (End::Named(Role::Log, 2), End::Sealer),
-        "pull" => (End::Source, End::Named(Role::Shard, 1)),
-        "move" => (End::Named(Role::Resolver, 3), End::Nobody),
-        "forget" | "pop" => (End::Named(Role::Shard, 1), End::Nobody),
-        _ => (End::Nobody, End::Nobody),
-    }
-}
-
-/// The name of a role in a picture.
-pub fn name(role: Role) -> &'static str {
+/// Writes the name of a party.
+pub fn write_name((role, number): Party, out: &mut String) -> Result<(), AllocError> {
     match role {
-        Role::Session => "session",
-        Role::ReadProxy => "read proxy",
-        Role::CommitProxy => "commit proxy",
-        Role::Sequencer => "sequencer",
-        Role::Resolver => "resolver",
-        Role::Log => "log",
-        Role::Shard => "shard",
+        Role::Session => write!(out, "session {number}"),
+        Role::ReadProxy => write!(out, "read proxy {number}"),
+        Role::CommitProxy => write!(out, "commit proxy {number}"),
+        Role::Sequencer => out.push_str("sequencer"),
+        Role::Resolver => write!(out, "resolver {number}"),
+        Role::Log => write!(out, "log {number}"),
+        Role::Shard => write!(out, "shard {number}"),
     }
 }
 
@@ -83,20 +44,21 @@ pub fn splits_of(config: &str, role: Role) -> &str {
     }
 }
 
+/// The key from which on the party owns keys at first, where it owns but a piece and not the first one.
+pub fn split_below(config: &str, (role, number): Party) -> Option<&str> {
+    let place = number.checked_sub(1)? as usize;
+    let mut splits = splits_of(config, role).split(',');
+    splits.nth(place).filter(|split| *split != "-")
+}
+
 /// Those who have a lane: the sessions that steps name, and as many others as the configuration has, which is the
 /// first step.
 pub fn lanes_of(alloc: Global, steps: &[Step<'_>]) -> Result<Parties, AllocError> {
     let mut lanes = BTreeSet::new(alloc);
-    for step in steps {
-        if let (End::Named(Role::Session, place), _) = ends_of(step.verb())
-            && let Some(number) = step.number(place)
-        {
-            lanes.insert((Role::Session, number))?;
-        }
+    for session in steps.iter().filter_map(|step| step.session()) {
+        lanes.insert(session)?;
     }
-    if let Some(config) = steps.first()
-        && config.verb() == "config"
-    {
+    if let Some(config) = steps.first().filter(|step| step.verb() == "config") {
         add_lanes(Role::ReadProxy, config.number(2), &mut lanes)?;
         add_lanes(Role::CommitProxy, config.number(2), &mut lanes)?;
         add_lanes(Role::Sequencer, Some(1), &mut lanes)?;
@@ -118,10 +80,6 @@ fn add_lanes(role: Role, count: Option<u32>, lanes: &mut Parties) -> Result<(), 
 }
 
 fn pieces(splits: &str) -> Option<u32> {
-    match splits {
-        "-" => Some(1),
-        _ => u32::try_from(splits.split(',').count())
-            .ok()?
-            .checked_add(1),
-    }
+    let cuts = splits.split(',').filter(|split| *split != "-").count();
+    u32::try_from(cuts).ok()?.checked_add(1)
 }

@@ -1,89 +1,99 @@
 //! Where everything stands in a picture, and how it is written.
 
-use crate::labels::{Escaped, write_words};
-use crate::lanes::{Parties, Party, Role, name, splits_of};
-use crate::stories::Figure;
-use std::fmt::{self, Write};
+use crate::labels::{Escaped, mood_of};
+use crate::lanes::{Parties, Party, split_below, write_name};
+use crate::steps::Step;
+use crate::stories::Story;
+use std::alloc::{AllocError, Global};
 
-/// Where text begins that stands at no lane.
-const MARGIN: usize = 44;
+/// Where text stands that is at no lane.
+const MARGIN: usize = 36;
 /// Where the first lane is.
 const LEFT: usize = 110;
 /// How far the lanes are apart.
 const PITCH: usize = 130;
-/// Where the first row begins.
-const TOP: usize = 44;
+/// How high the names of the lanes are.
+const HEAD: usize = 44;
 /// How high a row is.
 const ROW: usize = 22;
+/// How many rows stand below the names of the lanes before these come again.
+const ROWS: usize = 40;
 /// How wide a character is, at most.
 const LETTER: usize = 7;
 /// How far text is from the lane that it stands at.
 const GAP: usize = 8;
 /// How many characters have room between two lanes.
 const BETWEEN: usize = (PITCH - GAP - GAP) / LETTER;
-/// How many characters of a split are written at most.
-const SPLIT_LIMIT: usize = BETWEEN - 5;
-/// How wide a picture is at least.
-const LEAST_WIDTH: usize = 720;
 
-/// The lanes of a picture and how wide it is.
+/// What a call that writes answers: it fails only where memory runs out.
+type Written = Result<(), AllocError>;
+
+/// A picture of lanes, as far as it is written.
 #[derive(Drop)]
 pub struct Page {
     lanes: Parties,
     width: usize,
+    /// What is written.
+    pub out: String,
 }
 
 impl Page {
-    /// A page for the lanes.
-    pub fn new(lanes: Parties) -> Page {
-        let width = lane_at(lanes.len()).saturating_add(MARGIN).max(LEAST_WIDTH);
-        Page { lanes, width }
-    }
-
-    /// Writes the head of a picture of so many rows, and the lanes.
-    pub fn begin<W: Write>(&self, config: &str, rows: usize, out: &mut W) -> fmt::Result {
-        let width = self.width;
+    /// A page with room for so many rows.
+    pub fn new(alloc: Global, lanes: Parties, rows: usize) -> Result<Page, AllocError> {
+        let width = lane_at(lanes.len()).saturating_add(MARGIN + MARGIN);
         let height = row_at(rows).saturating_add(ROW);
+        let mut out = String::new(alloc);
         write!(
             out,
             "<svg xmlns='http://www.w3.org/2000/svg' version='1.1' width='{width}' height='{height}' \
-             font-family='DejaVu Sans Mono, monospace' font-size='11'>\n\
+             font-family='DejaVu Sans Mono, monospace' font-size='11' xml:space='preserve'>\n\
+             <style>.plain{{fill:#333333}} g.plain{{stroke:#333333}} \
+             .good{{fill:#0a7a2a;font-weight:700}} g.good{{stroke:#0a7a2a}} \
+             .bad{{fill:#c41515;font-weight:700}} g.bad{{stroke:#c41515}} \
+             .lane{{stroke:#bbbbbb}} .open{{stroke:#cddcf3;stroke-width:8}} .gap{{stroke:white;stroke-width:12}} \
+             .name{{text-anchor:middle}} .row{{fill:#777777;text-anchor:end}}</style>\n\
              <rect width='{width}' height='{height}' fill='white'/>\n"
         )?;
-        for (place, party) in self.lanes.iter().enumerate() {
-            let x = lane_at(place);
-            writeln!(out, "<path d='M{x} 36V{height}' stroke='#bbbbbb'/>")?;
-            write_name(x, *party, config, out)?;
-        }
-        Ok(())
+        Ok(Page { lanes, width, out })
     }
 
-    /// Writes a row: its number, the transactions that are open behind it, and the figure of its step.
-    pub fn row<W: Write>(
-        &self,
-        row: usize,
-        figure: &Figure<'_>,
-        open: &Parties,
-        out: &mut W,
-    ) -> fmt::Result {
+    /// Writes a row: its number, the transactions that are open before it, and the figure of its step. Above the first
+    /// row and each fortieth behind it stand the names of the lanes.
+    pub fn row<'a>(&mut self, row: usize, step: Step<'a>, story: &Story<'a>) -> Written {
         let top = row_at(row);
         let number = row.saturating_add(1);
-        let line = Escaped(figure.step.line);
-        let answer = Escaped(figure.step.answer);
-        write!(
-            out,
-            "<g transform='translate(0 {top})'><title>{line} &gt; {answer}</title>\
-             <text x='34' y='11' text-anchor='end' fill='#777777'>{number}</text>"
-        )?;
-        for x in open.iter().filter_map(|party| self.lane(*party)) {
-            let x = x.saturating_sub(4);
-            write!(out, "<path d='M{x} 17v22h8v-22z' fill='#cddcf3'/>")?;
+        let (line, answer) = (Escaped(step.line), Escaped(step.answer));
+        write!(self.out, "<g transform='translate(0 {top})'>")?;
+        if row % ROWS == 0 {
+            self.head(story.config)?;
         }
-        match figure.sender.and_then(|party| self.lane(party)) {
-            Some(x) => self.figure(x, figure, out)?,
-            None => self.text(MARGIN, figure, figure.label.as_str(), usize::MAX, out)?,
+        write!(self.out, "<g><title>{line} &gt; {answer}</title>")?;
+        write!(self.out, "<text class='row' x='34' y='11'>{number}</text>")?;
+        for party in &story.open {
+            if let Some(x) = self.lane(*party) {
+                write!(self.out, "<path class='open' d='M{x} -1v22'/>")?;
+            }
         }
-        writeln!(out, "</g>")
+        self.figure(step, story)?;
+        writeln!(self.out, "</g></g>")
+    }
+
+    /// Writes the lanes of some rows from here on, and above them their names and the keys from which on they own keys
+    /// at first.
+    fn head(&mut self, config: &str) -> Written {
+        let long = ROWS * ROW + GAP;
+        for (place, party) in self.lanes.iter().enumerate() {
+            let x = lane_at(place);
+            write!(self.out, "<path class='lane' d='M{x} -8v{long}'/>")?;
+            write!(self.out, "<text class='name' x='{x}' y='-29'>")?;
+            write_name(*party, &mut self.out)?;
+            if let Some(split) = split_below(config, *party) {
+                let split = Escaped(split.get(..BETWEEN - 5).unwrap_or(split));
+                write!(self.out, "<tspan x='{x}' y='-15'>from {split}</tspan>")?;
+            }
+            writeln!(self.out, "</text>")?;
+        }
+        Ok(())
     }
 
     fn lane(&self, party: Party) -> Option<usize> {
@@ -91,85 +101,66 @@ impl Page {
         Some(lane_at(place))
     }
 
-    /// Draws the arrows, or a mark where there is none, and the text beside them.
-    fn figure<W: Write>(&self, x: usize, figure: &Figure<'_>, out: &mut W) -> fmt::Result {
+    /// Draws the arrows of a step, or a mark where there is none, and the text beside them.
+    fn figure<'a>(&mut self, step: Step<'a>, story: &Story<'a>) -> Written {
+        let label = story.label(step)?;
+        let told = story.told(step);
+        let (sender, taker) = story.ends(step);
+        let Some(x) = sender.and_then(|party| self.lane(party)) else {
+            return self.text(MARGIN, step, label.as_str(), usize::MAX);
+        };
         let mut start = x;
-        let mut room = usize::MAX;
-        for (party, told) in figure.takers.iter() {
-            if let Some(to) = self.lane(*party) {
-                write_arrow(x, to, figure.colour_at(told), out)?;
-                if told.is_empty() {
-                    start = start.min(to);
-                } else if to < x {
-                    self.text(to, figure, told, BETWEEN, out)?;
-                } else {
-                    self.text(to, figure, told, usize::MAX, out)?;
-                    room = BETWEEN;
-                }
+        let mut is_mark = true;
+        for word in told.split_ascii_whitespace() {
+            if let Some(to) = step.told_session(word).and_then(|party| self.lane(party)) {
+                self.arrow(x, to, mood_of(step, word))?;
+                self.text(to, step, word, BETWEEN)?;
+                is_mark = false;
             }
         }
-        if figure.takers.is_empty() {
-            let colour = figure.colour_at("");
-            write!(out, "<circle cx='{x}' cy='8' r='4' fill='{colour}'/>")?;
+        let mood = mood_of(step, told);
+        if let Some(to) = taker.and_then(|party| self.lane(party)) {
+            self.arrow(x, to, mood)?;
+            start = start.min(to);
+        } else if is_mark {
+            write!(self.out, "<circle class='{mood}' cx='{x}' cy='8' r='4'/>")?;
         }
-        self.text(start, figure, figure.label.as_str(), room, out)
+        self.text(start, step, label.as_str(), usize::MAX)
     }
 
-    /// Writes a text right of the lane at x, or further left where the picture ends before, with at most so many
-    /// characters.
-    fn text<W: Write>(
-        &self,
-        x: usize,
-        figure: &Figure<'_>,
-        text: &str,
-        most: usize,
-        out: &mut W,
-    ) -> fmt::Result {
-        let most = most.min(self.width.saturating_sub(MARGIN) / LETTER);
-        let wide = text.chars().count().min(most).saturating_mul(LETTER);
-        let left = x.saturating_add(GAP).min(self.width.saturating_sub(wide));
+    /// Writes a text right of x, of at most so many characters and no more than have room there.
+    fn text(&mut self, x: usize, step: Step<'_>, text: &str, most: usize) -> Written {
+        let left = x.saturating_add(GAP);
+        let room = self.width.saturating_sub(left) / LETTER;
+        let most = most.min(room.saturating_sub(1));
+        let shown = text.get(..most).unwrap_or(text);
+        let wide = shown.len().saturating_mul(LETTER);
+        write!(self.out, "<path class='gap' d='M{left} 8h{wide}'/>")?;
+        write!(self.out, "<text x='{left}' y='11'>")?;
+        for word in shown.split_inclusive(' ') {
+            let mood = mood_of(step, word.trim_end());
+            let word = Escaped(word);
+            write!(self.out, "<tspan class='{mood}'>{word}</tspan>")?;
+        }
+        let rest = if shown.len() < text.len() { "…" } else { "" };
+        write!(self.out, "{rest}</text>")
+    }
+
+    fn arrow(&mut self, from: usize, to: usize, mood: &str) -> Written {
+        let neck = if from < to { -8 } else { 8 };
         write!(
-            out,
-            "<path d='M{left} 8h{wide}' stroke='white' stroke-width='12'/>\
-             <text x='{left}' y='11' xml:space='preserve'>"
+            self.out,
+            "<g class='{mood}'><circle cx='{from}' cy='17' r='2'/>"
         )?;
-        write_words(figure.step, text, most, out)?;
-        out.write_str("</text>")
+        write!(self.out, "<path d='M{from} 17H{to}m0 0l{neck} -3v6z'/></g>")
     }
 }
 
 fn row_at(row: usize) -> usize {
-    row.saturating_mul(ROW).saturating_add(TOP)
+    let heads = (row / ROWS).saturating_add(1).saturating_mul(HEAD);
+    row.saturating_mul(ROW).saturating_add(heads)
 }
 
 fn lane_at(place: usize) -> usize {
     place.saturating_mul(PITCH).saturating_add(LEFT)
-}
-
-/// Writes the name of a lane, and from which key on the party owns the keys at first.
-fn write_name<W: Write>(x: usize, (role, number): Party, config: &str, out: &mut W) -> fmt::Result {
-    let name = name(role);
-    write!(out, "<text x='{x}' y='15' text-anchor='middle'>{name}")?;
-    if role != Role::Sequencer {
-        write!(out, " {number}")?;
-    }
-    let splits = splits_of(config, role);
-    if let Some(before) = number.checked_sub(1)
-        && splits != "-"
-    {
-        let split = splits.split(',').nth(before as usize).unwrap_or("");
-        let split = Escaped(split.get(..SPLIT_LIMIT).unwrap_or(split));
-        write!(out, "<tspan x='{x}' y='29'>from {split}</tspan>")?;
-    }
-    writeln!(out, "</text>")
-}
-
-/// Draws an arrow.
-fn write_arrow<W: Write>(from: usize, to: usize, colour: &str, out: &mut W) -> fmt::Result {
-    let neck = if from < to { -8 } else { 8 };
-    write!(
-        out,
-        "<g stroke='{colour}' fill='{colour}'><path d='M{from} 17H{to}m0 0l{neck} -3v6z'/>\
-         <circle cx='{from}' cy='17' r='2'/></g>"
-    )
 }

@@ -1,5 +1,6 @@
 //! The steps of a script, each with what it answered.
 
+use crate::lanes::{Party, Role};
 use std::alloc::{AllocError, Global};
 
 /// A line of a script and its answer, which is empty where nothing answered it. What was answered beyond the script's
@@ -21,9 +22,26 @@ impl<'a> Step<'a> {
         word(self.line, place).parse().ok()
     }
 
-    /// Whether the step was refused, or is none.
-    pub fn is_refused(self) -> bool {
-        matches!(word(self.answer, 0), "refused" | "bad")
+    /// The one of the role that a word of the line numbers.
+    pub fn party(self, role: Role, place: usize) -> Option<Party> {
+        Some((role, self.number(place)?))
+    }
+
+    /// The session that the line names, where it is a session's.
+    pub fn session(self) -> Option<Party> {
+        match self.verb() {
+            "ask" | "submit" | "show" | "conflict" => self.party(Role::Session, 1),
+            "get" | "sget" | "range" | "srange" => self.party(Role::Session, 1),
+            "write" | "addread" | "addwrite" => self.party(Role::Session, 1),
+            _ => None,
+        }
+    }
+
+    /// The session that a word of the answer tells of, where it is granted a read version or answered.
+    pub fn told_session(self, word: &str) -> Option<Party> {
+        let (session, _) = word.split_once('=')?;
+        let is_told = matches!(self.verb(), "grant" | "answer" | "drive");
+        is_told.then_some((Role::Session, session.parse().ok()?))
     }
 }
 

@@ -1,37 +1,13 @@
-//! What tests of running databases run them by. It is no part of the product.
+//! What tests of running databases run them by, and what their sessions do and are asked. It is no part of the product.
 #![tactic(auto)]
 
-ghost use Rattle.std.specs.Prelude.{◌≡◌, Ok, Err, MatchResult};
-ghost use Rattle.fdb_keys.specs.declared.refusal.Refusal.TheVariants.{NoMemory};
+mod host;
+mod sessions;
+mod waiting;
 
-use fdb_keys::Refusal;
-use fdb_runtime::ClusterName;
-use std::marker::Brand;
-use std::process::Abort;
-use std::sync::Wait;
-use std::thread::Threads;
-use std::time::Clock;
-
-/// What runs a database in threads, tells the time, and stops a test that fails.
-pub trait Host: Threads + Wait + Abort + Clock + Copy + Send + Sync + Drop + 'static {}
-
-impl<R: Threads + Wait + Abort + Clock + Copy + Send + Sync + Drop + 'static> Host for R {}
-
-/// Names a database that runs.
-pub trait Named: ClusterName + Send + Sync + 'static {}
-
-impl Named for Brand {}
-
-/// Why a test couldn't go on, if so.
-pub type Done = Result<(), Refusal>;
-
-/// The thread, unless it couldn't be started, which is refused as `NoMemory`. What it was to run is dropped then, where
-/// its type is a parameter.
-pub fn thread_of<T, F: Drop>(started: Result<T, F>) -> Result<T, Refusal>
-    ensures { MatchResult started (λ thread. result ≡ Ok thread) (λ _. result ≡ Err NoMemory) }
-{
-    match started {
-        Ok(thread) => Ok(thread),
-        Err(_not_run) => Err(Refusal::NoMemory),
-    }
-}
+pub use host::{Done, Host, Named, thread_of};
+pub use sessions::{
+    Asked, add_read, add_write, byte_of, commit_code, is_serial, length_of, move_keys, put,
+    reads_just, receipt_of, refused_at, serial_in, snapshot_of, two_sessions, write,
+};
+pub use waiting::wait_for;

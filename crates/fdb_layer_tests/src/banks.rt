@@ -3,7 +3,7 @@ ghost use Rattle.std.specs.Prelude.{◌≡◌};
 
 use crate::asserting::same;
 use fdb_hosts::{Done, Host, Named, thread_of};
-use fdb_keys::Refusal;
+use fdb_keys::{Key, Refusal};
 use fdb_layers::{Account, Pay, Transfers, audit};
 use fdb_making::{both, coded, count_config};
 use fdb_runtime::{Blank, ClusterName, Config, Database, NoGate, Session, Tries};
@@ -91,11 +91,46 @@ fn audit_often<B: ClusterName, R: Wait>(
     Ok(balanced)
 }
 
+// What stands at the account of the name.
+fn amount_at<B: ClusterName, R: Wait>(
+    rt: &R,
+    alloc: Global,
+    session: &mut Session<B, Transfers>,
+    text: &[u8],
+) -> Result<Option<u64>, Refusal> {
+    let key = Key::new(alloc, text)?;
+    match session.get(rt, alloc, &key, false)? {
+        Some(value) => Ok(
+            value
+                .as_slice()
+                .first_chunk::<8>()
+                .map(|it| u64::from_le_bytes(*it)),
+        ),
+        None => Ok(None),
+    }
+}
+
+// What stands at all accounts, by one transaction.
+fn amounts<B: ClusterName, R: Wait>(
+    rt: &R,
+    alloc: Global,
+    session: &mut Session<B, Transfers>,
+) -> Result<[Option<u64>; 3], Refusal> {
+    session.begin(rt, alloc)?;
+    let ann = amount_at(rt, alloc, session, b"bank/ann")?;
+    let bob = amount_at(rt, alloc, session, b"bank/bob")?;
+    let cid = amount_at(rt, alloc, session, b"bank/cid")?;
+    Ok([ann, bob, cid])
+}
+
+// Ann pays 40 to Cid before anybody else pays: of the 100 that each has from the start she has 60 then, and Cid 140.
 fn play<B: Named, R: Host>(rt: &R, alloc: Global, database: &mut Database<B, Transfers>) -> Done {
     let (mut auditor, (one, other)) = both(
         database.session(alloc),
         both(database.session(alloc), database.session(alloc)),
     )?;
+    let first = coded(pay(rt, alloc, &mut auditor, Account::Ann, Account::Cid, 40));
+    let amounts = coded(amounts(rt, alloc, &mut auditor));
     let handle = *rt;
     let one = thread_of(thread::spawn(
         rt,
@@ -109,6 +144,11 @@ fn play<B: Named, R: Host>(rt: &R, alloc: Global, database: &mut Database<B, Tra
     let paid = (coded(one.join(rt)), coded(other.join(rt)));
     let last = coded(audit_once(rt, alloc, &mut auditor, 1));
     drop(auditor);
+    same(
+        rt,
+        (first, amounts),
+        (Ok(true), Ok([Some(60), None, Some(140)])),
+    );
     same(rt, paid, (Ok(false), Ok(false)));
     same(rt, (audited, last), (Ok(true), Ok(300)));
     Ok(())

@@ -10,4 +10,6 @@ mod layered;
 #[cfg(test)]
 mod queue;
 #[cfg(test)]
+mod rolling;
+#[cfg(test)]
 mod tables;

@@ -1,11 +1,11 @@
-// A queue whose pushes never conflict: sessions push and pop in threads of their own, and items come out in the order of
-// their commits.
+// A queue whose pushes never conflict: sessions push and pop in threads of their own, and items come out in the order
+// of their commits.
 ghost use Rattle.std.specs.Prelude.{◌≡◌};
 
 use crate::asserting::same;
 use fdb_hosts::{Done, Host, Named, thread_of};
 use fdb_keys::Refusal;
-use fdb_layers::{Pop, Push, StampedQueue, know_items};
+use fdb_layers::{Pop, Push, StampedQueue, know_handed_out, know_items};
 use fdb_making::{both, coded, count_config};
 use fdb_runtime::{Blank, Bytes, ClusterName, Config, Database, NoGate, Session, Tries, Work};
 use std::alloc::Global;
@@ -39,14 +39,16 @@ fn push<B: ClusterName, R: Wait>(
     Ok(())
 }
 
-/// Pops the item that was committed first, if there is one.
+/// Pops the item that was committed first, if there is one. Its own transaction hands it out.
 fn pop<B: ClusterName, R: Wait>(
     rt: &R,
     alloc: Global,
     session: &mut Session<B, StampedQueue>,
 ) -> Result<Option<u8>, Refusal> {
     let mut work = Pop { item: None };
-    drop(session.transact(rt, alloc, Tries::at_most(1_000), &mut work)?);
+    let receipt = session.transact(rt, alloc, Tries::at_most(1_000), &mut work)?;
+    know_handed_out(&receipt, &work);
+    drop(receipt);
     match work.item {
         Some(item) => Ok(item.as_slice().first().copied()),
         None => Ok(None),

@@ -7,6 +7,7 @@ mod CountingLemmas
 mod DoingLemmas
 mod FindingExamplesLemmas
 mod FindingLemmas
+mod HandingLemmas
 mod OperationsLemmas
 mod PagesLemmas
 mod PayingLemmas
@@ -17,6 +18,8 @@ mod QueueLemmas
 mod QueueingLemmas
 mod RangesLemmas
 mod ReadsLemmas
+mod RollingExamplesLemmas
+mod RollingLemmas
 mod TableExamplesLemmas
 mod TableLemmas
 mod UnwrittenLemmas

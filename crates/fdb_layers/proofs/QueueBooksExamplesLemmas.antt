@@ -17,18 +17,18 @@ use Rattle.fdb_layers.specs.QueueBooksExamples.{clearing_it, first_of, its_key, 
 use Rattle.fdb_layers.proofs.OperationsLemmas.{nowhere}
 
 -- the place of an entry's transaction
-abbrev place_at : ℕ → ℕ → List (Op × Reply) → Place
+abbrev pub place_at : ℕ → ℕ → List (Op × Reply) → Place
 place_at version session ops =
     placed (head_at version 0 []) 0 (commit_request_of (record { id = first_of session; read_version = 0; ops = ops }))
 
-abbrev push_place : Place
+abbrev pub push_place : Place
 push_place = place_at 100 0 (pushing (first_of 0) (7 ∷ []))
 
-abbrev taking_place : Place
+abbrev pub taking_place : Place
 taking_place = place_at 200 1 clearing_it
 
 -- it is taken once it was pushed, once more, and where nobody pushed it
-takes : TakesAt [] (push_place ∷ []) taking_place its_key
+pub takes : TakesAt [] (push_place ∷ []) taking_place its_key
 unfolding point_lt inserted
 takes = record { commits = refl; takes = refl }
 

@@ -116,7 +116,7 @@ pairs-of (Pairs pairs) = pairs
 pairs-of Done = []
 
 -- what a pop takes stood there
-popped-there : (map : Map) (transcript : Transcript) (pairs : List (Point × List ℕ)) (pair : Point × List ℕ)
+pub popped-there : (map : Map) (transcript : Transcript) (pairs : List (Point × List ℕ)) (pair : Point × List ℕ)
     → IsOldestIfAny pairs (Some pair) → transcript.ops ≡ popping pairs (Some pair) → AnsweredOn map transcript
     → get map pair.0 ≡ Some pair.1
 popped-there map transcript pairs pair oldest is answered =
@@ -127,7 +127,7 @@ popped-there map transcript pairs pair oldest is answered =
     (there-has pairs oldest.at pair oldest.there))).1
 
 -- the item of a mutation that stamps one behind ten bytes
-abbrev stamped-item : List Mutation → List ℕ
+abbrev pub stamped-item : List Mutation → List ℕ
 stamped-item (Stamped at operand offset ∷ rest) = drop 10 operand
 stamped-item mutations = []
 

@@ -1,10 +1,10 @@
 -- The queue, worked.
-use Rattle.std.proofs.Common.{◌≡◌, ◌∙◌, sym, ap, refl, subst, ℕ, ◌<◌, ◌^◌, true, false, List, [], ◌∷◌, ◌++◌, Some, arith}
+use Rattle.std.proofs.Common.{◌≡◌, ◌∙◌, sym, ap, refl, subst, ℕ, true, false, List, [], ◌∷◌, Some}
+use Rattle.std.proofs.Common.{arith}
 use Rattle.std.specs.Prelude.{codes, drop, take, ◌≤◌}
 use Rattle.std.specs.Int.{from_be_bytes, w32, w64}
 use Rattle.std.proofs.Math.Logic.{inl, inr}
 use Rattle.std.proofs.lemmas.Nat.{from_be_bytes-to_be_bytes_4, from_be_bytes-to_be_bytes_8}
-use Rattle.fdb_mutations.specs.Mutations.{effects}
 use Rattle.fdb_mutations.specs.Stamps.{stamp_size}
 use Rattle.fdb_mutations.specs.declared.mutation.Mutation.TheVariants.{Set}
 use Rattle.fdb_txn.proofs.Exports.{get-effects}

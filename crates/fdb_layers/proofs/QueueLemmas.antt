@@ -49,8 +49,9 @@ cleared-long key at value old before there = ⊎_elim
 push-keeps : Keeps IsPush AreStamped
 push-keeps map transcript version place (item, fits, is) answered before =
     left-by AreStamped map version place transcript (pushing transcript.id item) is
-    (λ key value in_queue there. set-long key (item_key transcript.id) (with_stamp (unstamped item) 0 (stamp_bytes version place)) value
-    (get map key) (pushed-long version place item) (before key value in_queue)
+    (λ key value in_queue there. set-long key (item_key transcript.id)
+    (with_stamp (unstamped item) 0 (stamp_bytes version place)) value (get map key) (pushed-long version place item)
+    (before key value in_queue)
     (sym (get-effects map (written version place (pushing transcript.id item)) key) ∙ there))
 
 popped-stamped : (map : Map) (version place : ℕ) → AreStamped map → (pairs : List (Point × List ℕ))

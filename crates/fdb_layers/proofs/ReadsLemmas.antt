@@ -31,7 +31,7 @@ one-more : (mutations : List Mutation) (mutation : Mutation) → mutations ++ mu
 one-more [] mutation none = cc
 one-more (first ∷ mutations) mutation none = cc
 
-unwritten-copy : (map : Map) (ops : List Op) → mutations_of ops ≡ [] → copy map ops ≡ map
+pub unwritten-copy : (map : Map) (ops : List Op) → mutations_of ops ≡ [] → copy map ops ≡ map
 unwritten-copy map [] none = refl
 unwritten-copy map (op.Get key snapshot ∷ earlier) none = unwritten-copy map earlier none
 unwritten-copy map (op.Range range limit is_reverse snapshot ∷ earlier) none = unwritten-copy map earlier none
@@ -118,7 +118,7 @@ module _ (splits : List Point) (old new : Session) (key : Point) (value : Option
   value-more = one.more
 
 -- ---- a page of a range
-abbrev pairs_of : Reply → List (Point × List ℕ)
+abbrev pub pairs_of : Reply → List (Point × List ℕ)
 pairs_of (reply.Pairs pairs) = pairs
 pairs_of other = []
 

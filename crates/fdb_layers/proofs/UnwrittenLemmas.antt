@@ -1,5 +1,5 @@
 -- A transaction that wrote no value reads the map as it is, and reads on so.
-use Rattle.std.proofs.Common.{◌≡◌, ◌∙◌, ap, subst, refl, ℕ, false, List, [], ◌∷◌, ◌++◌, Option, Some, None}
+use Rattle.std.proofs.Common.{◌≡◌, ◌∙◌, ap, subst, refl, ℕ, false, List, [], ◌∷◌, Option, Some, None}
 use Rattle.std.specs.Prelude.{IfOk, IfSome, Result, Ok, Err}
 use Rattle.std.proofs.Math.Logic.{inl}
 use Rattle.fdb_keys.specs.Points.{Point}
@@ -8,11 +8,11 @@ use Rattle.fdb_keys.specs.declared.refusal.Refusal.{Refusal}
 use Rattle.fdb_mutations.specs.Maps.{Map}
 use Rattle.fdb_mutations.specs.Pairs.{pairs_in}
 use Rattle.fdb_client.proofs.Exports.{program-push}
-use Rattle.fdb_client.specs.Programs.{copy, mutations_of, program}
+use Rattle.fdb_client.specs.Programs.{mutations_of, program}
 use Rattle.fdb_client.specs.declared.program.Op.{Op}
 use Rattle.fdb_client.specs.declared.program.Op.TheVariants as operation
 use Rattle.fdb_client.specs.declared.program.Reply.{Reply}
-use Rattle.fdb_client.specs.declared.program.Reply.TheVariants.{Value, Pairs, Done}
+use Rattle.fdb_client.specs.declared.program.Reply.TheVariants.{Pairs}
 use Rattle.fdb_client.specs.declared.program.Transcript.{Transcript}
 use Rattle.fdb_runtime.specs.Works.{IsStillOpen}
 use Rattle.fdb_runtime.specs.declared.options.ReadOptions.{ReadOptions}
@@ -21,27 +21,7 @@ use Rattle.fdb_sections.specs.Sessions.{Session}
 use Rattle.fdb_layers.specs.Operations.{DoesMore, WritesNoValue, reading_range}
 use Rattle.fdb_layers.specs.Table.{IsOfTable}
 use Rattle.fdb_layers.proofs.CountingLemmas.{run}
-
--- a list with one more item isn't empty
-not-empty : {A : Type 0} (xs : List A) (x : A) → xs ++ x ∷ [] ≡ [] → ⊥
-not-empty [] x none = cc
-not-empty (y ∷ xs) x none = cc
-
--- what writes no value leaves the map as it is
-copy-unwritten : (map : Map) (ops : List Op) → mutations_of ops ≡ [] → copy map ops ≡ map
-copy-unwritten map [] none = refl
-copy-unwritten map (operation.Get key snapshot ∷ earlier) none = copy-unwritten map earlier none
-copy-unwritten map (operation.Range range limit is_reverse snapshot ∷ earlier) none = copy-unwritten map earlier none
-copy-unwritten map (operation.Write mutation ∷ earlier) none =
-    absurd (not-empty (mutations_of earlier) mutation none)
-copy-unwritten map (operation.AddRead range ∷ earlier) none = copy-unwritten map earlier none
-copy-unwritten map (operation.AddWrite range ∷ earlier) none = copy-unwritten map earlier none
-
--- the pairs that a reply shows
-abbrev pairs-of : Reply → List (Point × List ℕ)
-pairs-of (Value value) = []
-pairs-of (Pairs pairs) = pairs
-pairs-of Done = []
+use Rattle.fdb_layers.proofs.ReadsLemmas.{pairs_of, unwritten-copy}
 
 -- what follows of the open transaction
 by-open : (current : Option Transcript) (P Q : Transcript → Type 0) → ((transcript : Transcript) → P transcript
@@ -57,9 +37,9 @@ pub pairs-are : (splits : List Point) (range : Range) (pairs : List (Point × Li
 pairs-are splits range pairs old new reads = by-open old.current _
     (λ (transcript : Transcript). WritesNoValue transcript
     → pairs ≡ pairs_in (run splits old.front transcript) range false)
-    (λ transcript read none. ap pairs-of (read.0
+    (λ transcript read none. ap pairs_of (read.0
     ∙ ap (λ (map : Map). Pairs (pairs_in map range false))
-    (copy-unwritten (run splits old.front transcript) (program transcript.ops) none)))
+    (unwritten-copy (run splits old.front transcript) (program transcript.ops) none)))
     reads
 
 -- and it still wrote no value behind that

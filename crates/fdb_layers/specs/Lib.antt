@@ -5,6 +5,7 @@ pub mod BankExamples
 pub mod Counters
 pub mod CountersExamples
 pub mod Finding
+pub mod Handing
 pub mod Operations
 pub mod Paying
 pub mod Queue
@@ -12,5 +13,7 @@ pub mod QueueBooks
 pub mod QueueBooksExamples
 pub mod QueueExamples
 pub mod Reads
+pub mod Rolling
+pub mod RollingExamples
 pub mod Table
 pub mod TableExamples

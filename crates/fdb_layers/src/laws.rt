@@ -3,10 +3,12 @@
 ghost use Rattle.fdb_layers.specs.BankExamples.{ThirtyIsPayment, SnapshotPaymentsFail, GiftsFail};
 ghost use Rattle.fdb_layers.specs.BankExamples.{NoMoreIsRefused};
 ghost use Rattle.fdb_layers.specs.CountersExamples.{OneIsAddition, LoneAdditionsFail};
+ghost use Rattle.fdb_layers.specs.Handing.{ReceiptsHandOut, WorkedHanding};
 ghost use Rattle.fdb_layers.specs.QueueBooks.{QueueBooksKeepTheirItems};
 ghost use Rattle.fdb_layers.specs.QueueBooksExamples.{WorkedItems};
 ghost use Rattle.fdb_layers.specs.QueueExamples.{EarlyIsPopped, JobIsPush, LateIsNotOldest, PushesHaveOwnKeys};
 ghost use Rattle.fdb_layers.specs.QueueExamples.{UnstampedPushesFail};
+ghost use Rattle.fdb_layers.specs.RollingExamples.{BothArrive, EarlyIsNotThere, LostIsNotThere};
 ghost use Rattle.fdb_layers.specs.TableExamples.{PinkIsPut, ForgetfulPutsFail, OneListIsFound};
 ghost use Rattle.fdb_layers.specs.TableExamples.{ValuesFindTheirRecords};
 
@@ -52,8 +54,8 @@ pub fn worked_queue()
     ensures bare { UnstampedPushesFail }
 {}
 
-/// In a book of the queue's transactions each item is handed out once at the most, and only where it was pushed; none is
-/// lost; and no two are pushed under one key.
+/// In a book of the queue's transactions each item is handed out once at the most, and only where it was pushed; none
+/// is lost; and no two are pushed under one key.
 pub fn queue_books_keep_their_items()
     ensures { QueueBooksKeepTheirItems }
 {}
@@ -62,4 +64,23 @@ pub fn queue_books_keep_their_items()
 /// pushed, doesn't keep its items.
 pub fn worked_items()
     ensures { WorkedItems }
+{}
+
+/// A receipt of a pop hands out the item that it popped: at the place of its transaction that item was taken, and it
+/// waited until then.
+pub fn receipts_hand_out()
+    ensures { ReceiptsHandOut }
+{}
+
+/// Where session 0 pushes 7 and session 1 takes it, session 1 is handed 7 and no 8, and session 0 nothing.
+pub fn worked_handing()
+    ensures { WorkedHanding }
+{}
+
+/// What a closed database held is carried over once the next one has its pairs, however they got there: not before
+/// that, and not where one is lost.
+pub fn worked_rolling()
+    ensures arrive { BothArrive }
+    ensures early { EarlyIsNotThere }
+    ensures lost { LostIsNotThere }
 {}

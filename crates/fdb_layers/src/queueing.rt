@@ -69,9 +69,9 @@ fn push_item<B: ClusterName>(
     stamp(alloc, session, &key, operand.as_slice())
 }
 
-/// Pushes an item, under a key of its transaction's own. It reads nothing, so nobody turns it down for a conflict. It is
-/// refused as `Session::stamped` is: as `ValueTooLarge` where the item has more than 99,990 bytes. It takes the time of
-/// one call of that.
+/// Pushes an item, under a key of its transaction's own. It reads nothing, so nobody turns it down for a conflict. It
+/// is refused as `Session::stamped` is: as `ValueTooLarge` where the item has more than 99,990 bytes. It takes the time
+/// of one call of that.
 #[derive(Drop)]
 pub struct Push {
     /// The item.
@@ -182,9 +182,9 @@ fn take<B: ClusterName>(
     }
 }
 
-/// Pops the item that was committed first, if there is any. It reads all of the queue, so it is turned down where another
-/// transaction pushed or popped meanwhile. It is refused as `Session::get_range` is. It takes the time of one call of
-/// that, and O(n) comparisons of values for the n items of the queue.
+/// Pops the item that was committed first, if there is any. It reads all of the queue, so it is turned down where
+/// another transaction pushed or popped meanwhile. It is refused as `Session::get_range` is. It takes the time of one
+/// call of that, and O(n) comparisons of values for the n items of the queue.
 #[derive(Drop)]
 pub struct Pop {
     /// The item that was popped, once the work has run: none where the queue was empty.

@@ -41,6 +41,7 @@ pub(crate) fn next_page<B: ClusterName, L: Layer, R: Wait>(
     requires unwritten { HasWrittenNone session.old.current }
     requires some { pages.old.rest ≡ None → ⊥ }
     ensures same { IsSameSession session.old session.new }
+    ensures seen { session.new.front ≡ session.old.front }
     ensures reads { OnOk result (HasOnlyRead session.old session.new) }
     ensures page { IfOk result (λ page. pairs_left (run_read B.config.resolver_splits session.old) pages.old.rest
         ≡ unwrap_or page [] ++ pairs_left (run_read B.config.resolver_splits session.old) pages.new.rest) }

@@ -2,7 +2,7 @@
 //! between them, it makes a picture, as SVG on the standard output.
 #![tactic(auto)]
 
-use fdb_draw::{Stop, draw};
+use fdb_draw::draw;
 use std::alloc::Global;
 use std::io;
 use std::io::{Read, Write};
@@ -34,9 +34,6 @@ fn run(rt: &HostRuntime, alloc: Global) -> io::Result<()> {
 // The picture of a script and of what it printed, which is nothing where no line parts it from the script.
 fn picture_of(alloc: Global, input: &str) -> io::Result<String> {
     let (script, answers) = input.split_once(PARTING).unwrap_or((input, ""));
-    let mut picture = String::new(alloc);
-    match draw(alloc, script, answers, &mut picture) {
-        Ok(()) => Ok(picture),
-        Err(Stop::NoMemory | Stop::Output) => Err(io::Error::from(io::ErrorKind::OutOfMemory)),
-    }
+    let picture = draw(alloc, script, answers)?;
+    Ok(picture)
 }

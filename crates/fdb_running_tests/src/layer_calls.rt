@@ -4,8 +4,7 @@ ghost use Rattle.fdb_keys.specs.declared.refusal.Refusal.{Refusal as ARefusal};
 ghost use Rattle.fdb_runtime.specs.Works.{IsSameSession, IsStillOpen, IsUntouched};
 
 use crate::asserting::same;
-use crate::running::{byte_of, put, receipt_of, two_sessions};
-use fdb_hosts::{Done, Host, Named};
+use fdb_hosts::{Done, Host, Named, byte_of, put, receipt_of, two_sessions};
 use fdb_keys::{Key, KeyRange, Refusal};
 use fdb_making::{coded, count_config};
 use fdb_runtime::{

@@ -2,11 +2,10 @@
 ghost use Rattle.std.specs.Prelude.{◌≡◌};
 
 use crate::asserting::same;
-use crate::running::{
-    Asked, add_read, add_write, byte_of, commit_code, put, reads_just, snapshot_of, two_sessions,
-    write,
+use fdb_hosts::{
+    Asked, Done, Host, Named, add_read, add_write, byte_of, commit_code, put, reads_just,
+    snapshot_of, two_sessions, write,
 };
-use fdb_hosts::{Done, Host, Named};
 use fdb_keys::{KeyRange, Refusal};
 use fdb_making::{coded, count_config, keys_of};
 use fdb_mutations::Mutation;

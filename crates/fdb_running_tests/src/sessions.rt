@@ -2,11 +2,11 @@
 ghost use Rattle.std.specs.Prelude.{◌≡◌};
 
 use crate::asserting::same;
-use crate::running::{
-    Asked, add_read, add_write, byte_of, move_keys, reads_just, receipt_of, two_sessions, write,
-};
 use fdb_book::Blank;
-use fdb_hosts::{Done, Host, Named};
+use fdb_hosts::{
+    Asked, Done, Host, Named, add_read, add_write, byte_of, move_keys, reads_just, receipt_of,
+    two_sessions, write,
+};
 use fdb_keys::Refusal;
 use fdb_making::{are_pairs, coded, count_config};
 use fdb_mutations::Mutation;

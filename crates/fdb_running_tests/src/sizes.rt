@@ -2,8 +2,7 @@
 ghost use Rattle.std.specs.Prelude.{◌≡◌};
 
 use crate::asserting::same;
-use crate::running::{byte_of, commit_code, length_of, write};
-use fdb_hosts::{Done, Host, Named};
+use fdb_hosts::{Done, Host, Named, byte_of, commit_code, length_of, write};
 use fdb_keys::{KeyRange, Refusal};
 use fdb_making::{coded, count_config, made_of, text_of};
 use fdb_mutations::Mutation;

@@ -2,10 +2,8 @@
 ghost use Rattle.std.specs.Prelude.{◌≡◌};
 
 use crate::asserting::same;
-use crate::gates::wait_for;
-use crate::running::{receipt_of, write};
 use bytes::Bytes;
-use fdb_hosts::{Done, Host, Named, thread_of};
+use fdb_hosts::{Done, Host, Named, receipt_of, thread_of, wait_for, write};
 use fdb_keys::{Items, Key, KeyRange, Refusal};
 use fdb_making::{both, code_of, coded, count_config, keys_of};
 use fdb_mutations::Mutation;

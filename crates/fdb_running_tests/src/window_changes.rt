@@ -3,9 +3,8 @@
 ghost use Rattle.std.specs.Prelude.{◌≡◌};
 
 use crate::asserting::same;
-use crate::running::{byte_of, commit_code, put, two_sessions, write};
 use crate::windows::pass_one;
-use fdb_hosts::{Done, Host, Named};
+use fdb_hosts::{Done, Host, Named, byte_of, commit_code, put, two_sessions, write};
 use fdb_keys::Refusal;
 use fdb_making::{code_of, coded, count_config, keys_of};
 use fdb_mutations::Mutation;

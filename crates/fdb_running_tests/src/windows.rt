@@ -4,10 +4,10 @@ ghost use Rattle.std.specs.Prelude.{◌≡◌};
 
 use crate::asserting::same;
 use crate::reads::{Touch, touch_keys};
-use crate::running::{
-    Asked, byte_of, commit_code, put, reads_just, snapshot_of, two_sessions, write,
+use fdb_hosts::{
+    Asked, Done, Host, Named, byte_of, commit_code, put, reads_just, snapshot_of, two_sessions,
+    write,
 };
-use fdb_hosts::{Done, Host, Named};
 use fdb_keys::Refusal;
 use fdb_making::{coded, count_config, keys_of};
 use fdb_mutations::Mutation;

@@ -318,12 +318,12 @@ impl<B: DatabaseName> Session<B> {
     /// unreadable, which counts as a pair that is there. Such a read is never answered, but what the shards refuse and
     /// `NoMemory` may come before. Then nothing changes.
     ///
-    /// Each shard is asked for no more than the limit still needs, in the order in which the pairs are given, and asked
-    /// again as often as it has more than a page, or the own writes hide what it gave. Each asking takes O(log s)
-    /// comparisons for s shards, O(log n) for the n keys of the shard, and O(log v) for the v versions of each pair
-    /// that it gives, of one more, and of each key between them at which nothing stands. Where it is refused for
-    /// another reason than an unreadable key, it asks each shard that the range meets once more whether it serves the
-    /// version.
+    /// Each shard is asked for no more than the limit needs, in the order in which the pairs are given, and asked again
+    /// as often as it has more than a page, or the own writes hide what it gave, then for twice as many pairs. Each
+    /// asking takes O(log s) comparisons for s shards, O(log n) for the n keys of the shard, and O(log v) for the v
+    /// versions of each pair that it gives, of one more, and of each key between them at which nothing stands. Where it
+    /// is refused for another reason than an unreadable key, it asks each shard that the range meets once more whether
+    /// it serves the version.
     pub fn get_range<R: Wait>(
         &mut self,
         rt: &R,

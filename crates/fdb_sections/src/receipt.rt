@@ -2,6 +2,7 @@ ghost use Rattle.std.specs.Prelude.{◌≡◌, ◌≤◌, suc, length};
 ghost use Rattle.fdb_txn.specs.book.Book.{last_version};
 ghost use Rattle.fdb_roles.specs.Spots.{spot_version};
 ghost use Rattle.fdb_txn.specs.book.History.{IsBook, AreEntries};
+ghost use Rattle.fdb_roles.specs.Layers.{IsBookOf};
 ghost use Rattle.fdb_sections.specs.Asking.{HoldsOnRun};
 ghost use Rattle.fdb_sections.specs.Receipts.{IsReceipt};
 
@@ -96,6 +97,14 @@ impl<B: DatabaseName> Receipt<B> {
         ensures { result.now ≡ self.now.transcript }
     {
         &self.transcript
+    }
+
+    /// Says that the front is a book of transactions that the database allows, each answered as on the serial map at its
+    /// read version, and does nothing else. It takes no memory, and O(1) time.
+    pub fn know_allowed(&self)
+        ensures { ∥ IsBookOf B.allows B.config.resolver_splits self.now.front ∥₁ }
+    {
+        self.front.know_allowed();
     }
 
     /// The spot and the transcript, as `serial_check` takes them.

@@ -31,7 +31,7 @@ const HELPED: u8 = 0;
 /// status. `run` runs the script that the reader gives, `random` steps that are drawn from a seed, `threads` clients of
 /// a database in threads, and `simulate` clients of such a database in one thread; each prints to `out`. How far
 /// `random` and `threads` are goes to `err` where it is asked for, and so does what a line of a script that is none may
-/// be meant for.
+/// be meant for, and what one that comes too early waits for.
 ///
 /// Words that ask for help or for the version print it to `out`, with status 0. Others that give no command print what
 /// is wrong with them to `err`, with status 2 and nothing on `out`. Where memory runs out while they are read it does

@@ -4,6 +4,8 @@ ghost use Rattle.std.specs.Io.KnownBytes.{Appends};
 ghost use Rattle.fdb_proxy.specs.Configs.{config_fault};
 ghost use Rattle.fdb_machine.specs.machine.Worlds.{first_state};
 ghost use Rattle.fdb_print.specs.Streams.{FailsWith, IsLimitedError, IsStreamError};
+ghost use Rattle.fdb_play.specs.declared.script.step_line.Kind.TheVariants.{Answer};
+ghost use Rattle.fdb_play.specs.print.Answers.{result_text};
 ghost use Rattle.fdb_play.specs.script.Configs.{WritesConfig, line_fault};
 ghost use Rattle.fdb_play.specs.script.Lines.{left, line_text, line_number};
 ghost use Rattle.fdb_play.specs.play.Scripts.{is_silent, AnswersLine, PlaysOn, PlaysFrom, Plays};
@@ -16,13 +18,14 @@ use crate::print::answers::{push_refusal, push_result};
 use crate::print::endings::print_check;
 use crate::script::config_line::read_config;
 use crate::script::fault::Fault;
-use crate::script::hint::{print_config_hint, print_line_hint};
+use crate::script::hint::{NoHints, print_config_hint, print_line_hint, print_wait_hint};
 use crate::script::line::{Line, read_line};
 use crate::script::lines::Lines;
 use crate::script::step_line::Kind;
-use fdb_core::{Config, World};
+use fdb_core::{Answered, Config, World};
+use fdb_keys::Refusal;
 use fdb_print::{Limited, Sink, Source, Stop, print_stop};
-use std::alloc::Global;
+use std::alloc::{AllocError, Global};
 use std::io;
 
 /// Runs the script that the reader gives, and writes what it prints to the writer, which isn't flushed.
@@ -44,12 +47,11 @@ pub fn run_script<R: Source, W: Sink>(
         Knows (R.remaining reader.old) (λ lines. Plays 0 lines printed status))) }
     ensures errors { IfErr result (IsStreamError (IsLimitedError R.errors) W.errors) }
 {
-    let mut unread: Vec<u8> = Vec::new(alloc);
-    run_script_with_hints(alloc, reader, writer, &mut unread)
+    run_script_with_hints(alloc, reader, writer, &mut NoHints)
 }
 
-/// The same, and where a line is none of the grammar it tells on `hints` what such a line is like. Whether that can be
-/// told changes nothing.
+/// The same, and tells on `hints` what a line is like where one is none of the grammar, and what a line waits for that is
+/// refused as `NotYet`. Whether that can be told changes nothing, and beside what `hints` takes it takes no memory.
 pub fn run_script_with_hints<R: Source, W: Sink, H: Sink>(
     alloc: Global,
     reader: &mut R,
@@ -138,7 +140,7 @@ fn play_on<R: Source + Drop, W: Sink, H: Sink>(
     ensures errors { IfErr result (FailsWith (IsStreamError R.errors W.errors)) }
 {
     let mut world = world;
-    let ended = take_steps(alloc, lines, &mut world, writer);
+    let ended = take_steps(alloc, lines, &mut world, writer, hints);
     drop(world);
     if let Err(Stop::BadLine(number)) = &ended {
         drop(print_line_hint(*number, lines.text(), hints));
@@ -212,11 +214,12 @@ fn make_world(alloc: Global, config: Config) -> Result<World, Stop>
 }
 
 // Takes the steps of the lines that are left, and prints what each answers and what the check found.
-fn take_steps<R: Source + Drop, W: Sink>(
+fn take_steps<R: Source + Drop, W: Sink, H: Sink>(
     alloc: Global,
     lines: &mut Lines<R>,
     world: &mut World,
     writer: &mut W,
+    hints: &mut H,
 ) -> Result<u8, Stop>
     ensures bound { IfOk result (λ status. status < 2) }
     ensures printed { IfOk result (λ status. Printed (W.contents writer.old) (W.contents writer.new) (λ printed.
@@ -235,7 +238,7 @@ fn take_steps<R: Source + Drop, W: Sink>(
         }
         if !is_silent(lines.text()) {
             text.clear();
-            take_line(alloc, lines, world, &mut text)?;
+            take_line(alloc, lines, world, &mut text, hints)?;
             writer.write_all(text.as_bytes())?;
         }
     }
@@ -253,12 +256,14 @@ fn is_silent(line: &[u8]) -> bool
     }
 }
 
-// Takes the step or the steps that the current line gives, if any, and appends what the line prints to the text.
-fn take_line<R: Source + Drop>(
+// Takes the step or the steps that the current line gives, if any, and appends what the line prints to the text. What it
+// waits for is told on `hints`.
+fn take_line<R: Source + Drop, H: Sink>(
     alloc: Global,
     lines: &Lines<R>,
     world: &mut World,
     text: &mut String,
+    hints: &mut H,
 ) -> Result<(), Stop>
     ensures ok { OnOk result
         ((said : List ℕ) × (string_bytes text.new ≡ string_bytes text.old ++ said)
@@ -267,13 +272,47 @@ fn take_line<R: Source + Drop>(
         StopsAt (line_number lines.now) (line_text lines.now) last 2)) }
     ensures errors { IfErr result (FailsWith (λ _. ⊥)) }
 {
+    let number = lines.number();
     match read_line(alloc, lines.text()) {
-        Ok(Line::Step { kind, step }) => Ok(push_result(text, kind, world.step(step))?),
-        Ok(Line::Drive { proxy }) => Ok(push_result(text, Kind::Answer, drive(world, proxy))?),
+        Ok(Line::Step { kind, step }) => Ok(push_step(
+            text,
+            kind,
+            world.step(step),
+            number,
+            hints,
+        )?),
+        Ok(Line::Drive { proxy }) => Ok(push_drive(text, drive(world, proxy), number, hints)?),
         Ok(Line::Show { session }) => Ok(push_shown(text, world, session)?),
         Ok(Line::Conflict { session }) => Ok(push_conflict(text, world, session)?),
         Err(Fault::Refused(refusal)) => Ok(push_refusal(text, refusal)?),
-        Err(Fault::Bad) => Err(Stop::BadLine(lines.number())),
+        Err(Fault::Bad) => Err(Stop::BadLine(number)),
         Err(Fault::NoMemory) => Err(Stop::NoMemory),
     }
+}
+
+// Appends what a step of this kind prints, as a line, and tells on `hints` what the line of this number waits for.
+fn push_step<H: Sink>(
+    text: &mut String,
+    kind: Kind,
+    outcome: Result<Answered, Refusal>,
+    number: u64,
+    hints: &mut H,
+) -> Result<(), AllocError>
+    ensures { OnOk result (string_bytes text.new ≡ string_bytes text.old ++ printed_line (result_text kind outcome)) }
+{
+    drop(print_wait_hint(number, Some(kind), &outcome, hints));
+    push_result(text, kind, outcome)
+}
+
+// The same of a drive, which prints what the last step prints that it takes.
+fn push_drive<H: Sink>(
+    text: &mut String,
+    outcome: Result<Answered, Refusal>,
+    number: u64,
+    hints: &mut H,
+) -> Result<(), AllocError>
+    ensures { OnOk result (string_bytes text.new ≡ string_bytes text.old ++ printed_line (result_text Answer outcome)) }
+{
+    drop(print_wait_hint(number, None, &outcome, hints));
+    push_result(text, Kind::Answer, outcome)
 }

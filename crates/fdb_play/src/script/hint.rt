@@ -1,9 +1,29 @@
-//! What who writes a script by hand is told of a line that is none of the grammar.
+//! What who writes a script by hand is told of a line that is none of the grammar, and of one that came too early.
 ghost use Rattle.std.specs.Prelude.{IfErr};
 
+use crate::script::step_line::Kind;
 use crate::script::words::Words;
+use fdb_core::Answered;
+use fdb_keys::Refusal;
 use fdb_print::Sink;
+use std::fmt::Display;
 use std::io;
+
+/// Hints that nobody reads, and that take no memory.
+#[derive(Clone, Copy)]
+pub struct NoHints;
+
+impl Sink for NoHints {
+    ghost errors = { λ _. ⊥ };
+
+    fn write_all(&mut self, _bytes: &[u8]) -> io::Result<()> {
+        Ok(())
+    }
+
+    fn write_fmt<D: Display + Drop>(&mut self, _text: D) -> io::Result<()> {
+        Ok(())
+    }
+}
 
 /// What the first line that says anything is like.
 const CONFIG: &str = "config proxies N logs N resolvers SPLITS shards SPLITS book N";
@@ -115,5 +135,40 @@ pub fn print_config_hint<E: Sink>(number: u64, hints: &mut E) -> Result<(), io::
             hints,
             "line {number} is the first one, which has to be:\n  {CONFIG}"
         ),
+    }
+}
+
+// What a line of the kind waits for that is refused as `NotYet`, up to the number: a step of this kind, or a drive where
+// there is none. A drive's decision and what comes after its last acknowledgement never wait.
+fn awaited(kind: Option<Kind>) -> &'static str {
+    match kind {
+        Some(Kind::Resolve) => "until the resolver has taken the entry of version",
+        Some(Kind::Decide) => "for the verdicts of resolver",
+        Some(Kind::Push) => "until the log has taken the entry of version",
+        Some(Kind::Report) => "for the acknowledgement of log",
+        Some(Kind::Answer) => "for the report of version",
+        None => "until all resolvers and logs have taken the entry of version",
+        // No other step is refused so.
+        Some(_) => "for number",
+    }
+}
+
+/// Tells on `hints` what the line of this number waits for, whose outcome it is, where that is the refusal `NotYet`; of
+/// any other outcome nothing. The line gave a step of the kind, or drove a batch where there is none. It takes O(1) time,
+/// and no memory.
+pub fn print_wait_hint<E: Sink>(
+    number: u64,
+    kind: Option<Kind>,
+    outcome: &Result<Answered, Refusal>,
+    hints: &mut E,
+) -> Result<(), io::Error>
+    ensures errors { IfErr result E.errors }
+{
+    match outcome {
+        Err(Refusal::NotYet(missing)) => {
+            let awaited = awaited(kind);
+            writeln!(hints, "line {number} waits {awaited} {missing}")
+        }
+        _ => Ok(()),
     }
 }

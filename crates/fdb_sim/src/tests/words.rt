@@ -199,3 +199,86 @@ fn bad_lines_are_told_what_they_may_be_meant_for(rt: HostRuntime) -> Result<(), 
     }
     Ok(())
 }
+
+const WIDE: &[u8] = b"config proxies 2 logs 2 resolvers m shards - book 9\n";
+
+// What lines of a script print behind the first one, and what is told of the last one.
+const WAITS: &[(&[u8], &[u8], &[u8])] = &[
+    (
+        b"seal 0 100\nseal 1 100\nresolve 1 1",
+        b"entry 0 version 100 prev 0 places 0\n\
+        entry 1 version 200 prev 100 places 0\n\
+        refused 9002 NotYet 100\n\
+        checked 0\n",
+        b"line 4 waits until the resolver has taken the entry of version 100\n",
+    ),
+    (
+        b"ask 0 0\ngrant 0\nwrite 0 set z 1\nsubmit 0 0\nseal 0 100\n# early\n\ndecide 0",
+        b"ok\n\
+        grant 0=0\n\
+        ok\n\
+        ok\n\
+        entry 0 version 100 prev 0 places 1\n\
+        refused 9002 NotYet 1\n\
+        checked 0\n",
+        b"line 9 waits for the verdicts of resolver 1\n",
+    ),
+    (
+        b"seal 0 100\nseal 1 100\ndecide 1\npush 1 0",
+        b"entry 0 version 100 prev 0 places 0\n\
+        entry 1 version 200 prev 100 places 0\n\
+        decided\n\
+        refused 9002 NotYet 100\n\
+        checked 0\n",
+        b"line 5 waits until the log has taken the entry of version 100\n",
+    ),
+    (
+        b"seal 0 100\ndecide 0\npush 0 0\nlogged 0 0\nreport 0",
+        b"entry 0 version 100 prev 0 places 0\n\
+        decided\n\
+        ok\n\
+        ok\n\
+        refused 9002 NotYet 1\n\
+        checked 0\n",
+        b"line 6 waits for the acknowledgement of log 1\n",
+    ),
+    (
+        b"seal 1 100\nanswer 1",
+        b"entry 0 version 100 prev 0 places 0\n\
+        refused 9002 NotYet 100\n\
+        checked 0\n",
+        b"line 3 waits for the report of version 100\n",
+    ),
+    (
+        b"seal 0 100\nseal 1 100\ndrive 1",
+        b"entry 0 version 100 prev 0 places 0\n\
+        entry 1 version 200 prev 100 places 0\n\
+        refused 9002 NotYet 100\n\
+        checked 0\n",
+        b"line 4 waits until all resolvers and logs have taken the entry of version 100\n",
+    ),
+    (
+        b"drive 0\nseal 0 100\nresolve 0 2",
+        b"refused 9014 WrongState\n\
+        entry 0 version 100 prev 0 places 0\n\
+        refused 9016 Unknown\n\
+        checked 0\n",
+        b"",
+    ),
+];
+
+// A step that comes too early is answered as ever, and what it waits for is told beside that. Nothing is told of one
+// that is refused otherwise.
+#[test]
+fn early_steps_are_told_what_they_wait_for(rt: HostRuntime) -> Result<(), Fail> {
+    for (lines, printed, hint) in WAITS {
+        let mut script: Vec<u8> = Vec::new(rt.alloc());
+        script.extend_from_slice(WIDE)?;
+        script.extend_from_slice(lines)?;
+        let ended = run_on(&rt, rt.alloc(), &["run"], script.as_slice());
+        assert!(rt; has_status(&ended, 0));
+        assert!(rt; ended.out.as_slice().strip_prefix(b"ok\n".as_slice()) == Some(*printed));
+        assert!(rt; ended.err.as_slice() == *hint);
+    }
+    Ok(())
+}

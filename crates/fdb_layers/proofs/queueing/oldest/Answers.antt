@@ -1,4 +1,5 @@
-use Rattle.std.proofs.Common.{◌≡◌, ◌∙◌, sym, subst, ℕ, ◌+◌, ◌<◌, refl, List, length, take, take_all, Some, slice_get, rules}
+use Rattle.std.proofs.Common.{◌≡◌, sym, subst, ℕ, ◌+◌, ◌<◌, refl, List, length, take, Some, slice_get}
+use Rattle.std.proofs.Common.{rules}
 use Rattle.std.specs.List.{AllByRecursion}
 use Rattle.std.proofs.lemmas.Option.{slice_get_read}
 use Rattle.fdb_keys.specs.Points.{Point}

@@ -7,9 +7,9 @@ pub merge_page-more-requires-clause-page : goal.merge_page-more-requires-clause-
 merge_page-more-requires-clause-page g c =
     let map = g.S.Snapshot.map c.args.snapshot.now in
     let left = c.args.progress.now.left in
-    let page : IsPage map left c.room.result c.args.self.now.reverse c.in_ok-page.page =
+    let page : IsPage map left c.saturating_mul-asked.result c.args.self.now.reverse c.in_ok-page.page =
     (given c.in_ok-page.page (g.S.Snapshot.range_fault c.args.snapshot.now left)
-    (IsPage map left c.room.result c.args.self.now.reverse) c.in_ok-page.ensures).1 in
+    (IsPage map left c.saturating_mul-asked.result c.args.self.now.reverse) c.in_ok-page.ensures).1 in
     (map, c.requires.copy.0, c.requires.copy.1, record { first = page.first; more = page.more })
 
 pub returns : goal.returns
@@ -17,8 +17,8 @@ returns g c =
     let map = g.S.Snapshot.map c.args.snapshot.now in
     let left = c.args.progress.now.left in
     let answered = given c.in_ok-page.page (g.S.Snapshot.range_fault c.args.snapshot.now left)
-    (IsPage map left c.room.result c.args.self.now.reverse) c.in_ok-page.ensures in
-    let page : IsPage map left c.room.result c.args.self.now.reverse c.in_ok-page.page = answered.1 in
+    (IsPage map left c.saturating_mul-asked.result c.args.self.now.reverse) c.in_ok-page.ensures in
+    let page : IsPage map left c.saturating_mul-asked.result c.args.self.now.reverse c.in_ok-page.page = answered.1 in
     rw answered.0 (same_fault c.merge_page-more.result None _ _
     (λ more says range so_far.
     says map c.requires.copy.0 range c.requires.copy.1 (record { first = page.first; more = page.more }) so_far)

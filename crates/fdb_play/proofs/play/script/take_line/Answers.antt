@@ -5,4 +5,4 @@ use Rattle.fdb_play.proofs.play.script.take_line.Goals as goal
 pub returns-in-Err-Bad-clause-stops : goal.returns-in-Err-Bad-clause-stops
 returns-in-Err-Bad-clause-stops g c =
     let bad = rw (c.in-Err-Bad.field-0-is, c.text.ensures) at c.in-Err-Bad.ensures in
-    inl (bad, (ap bad_line c.number.ensures, refl))
+    inl (bad, (ap bad_line c.number-number.ensures, refl))

@@ -1,0 +1,7 @@
+use Rattle.fdb_layer_tests.proofs.rolling.large_pairs_arrive_whole.Given as goal
+
+abbrev pub ghosts-carry-B-BookName : goal.ghosts-carry-B-BookName
+ghosts-carry-B-BookName g a = record { cells = a.blank }
+
+abbrev pub ghosts-carry-B-ClusterName : goal.ghosts-carry-B-ClusterName
+ghosts-carry-B-ClusterName g a = record { config = a.config.now }
