@@ -1,6 +1,6 @@
 -- Heads decide the order of texts, unless they are equal.
 use Rattle.std.proofs.Common.{◌≡◌, ◌∙◌, sym, ap, refl, ℕ, zero, suc, ◌+◌, ◌*◌, ◌^◌, ◌<◌, ◌≤◌, List, [], ◌∷◌, get_or}
-use Rattle.std.proofs.Common.{⊎_elim, Less, Equal, Greater, arith}
+use Rattle.std.proofs.Common.{⊎_elim, Less, Equal, Greater, length, arith}
 use Rattle.std.proofs.Math.Nat.{pow-suc, one-le-pow, mul-le-mul_right}
 use Rattle.std.specs.Cmp.{nat_cmp_is}
 use Rattle.std.specs.Cmp.Lexicographic.{slice_cmp}
@@ -82,3 +82,42 @@ pub greater-by-head : (head other : ℕ) (a b : List ℕ) → IsHeaded head a �
     → slice_cmp nat_cmp a b ≡ Greater
 greater-by-head head other a b of_a of_b less =
     nat_list_cmp_total.antisymm a b ∙ ap ordering_reverse (less-by-head other head b a of_b of_a less)
+
+cmp-suc : (m n : ℕ) → nat_cmp m n ≡ nat_cmp (suc m) (suc n)
+cmp-suc m n = ⊎_elim
+    (λ same. sym (nat_cmp_is m n Equal same) ∙ nat_cmp_is (suc m) (suc n) Equal (ap suc same))
+    (λ differ. ⊎_elim
+    (λ before. sym (nat_cmp_is m n Less before) ∙ nat_cmp_is (suc m) (suc n) Less (omega (arith, before)))
+    (λ after. sym (nat_cmp_is m n Greater after) ∙ nat_cmp_is (suc m) (suc n) Greater (omega (arith, after)))
+    differ)
+    (cases_order m n)
+
+-- texts of which a head has all bytes are in the order of their lengths, where the head is the same
+head-same : (n : ℕ) (a b : List ℕ) → AreBytes a → AreBytes b → length a ≤ n → length b ≤ n → head_by n a ≡ head_by n b
+    → slice_cmp nat_cmp a b ≡ nat_cmp (length a) (length b)
+head-same n [] [] of_a of_b a_fits b_fits same = nat_cmp_is 0 0 Equal refl
+head-same n [] (y ∷ ys) of_a of_b a_fits b_fits same =
+    nat_cmp_is 0 (length (y ∷ ys)) Less (omega arith)
+head-same n (x ∷ xs) [] of_a of_b a_fits b_fits same =
+    nat_cmp_is (length (x ∷ xs)) 0 Greater (omega arith)
+head-same zero (x ∷ xs) (y ∷ ys) of_a of_b a_fits b_fits same = absurd (omega (arith, a_fits))
+head-same (suc n) (x ∷ xs) (y ∷ ys) of_a of_b a_fits b_fits same = ⊎_elim
+    (λ alike.
+    let equal : x * 256 ^ n ≡ y * 256 ^ n = ap (λ (z : ℕ). z * 256 ^ n) alike in
+    ap (λ (o : Ordering). ordering_then o (slice_cmp nat_cmp xs ys)) (sym (nat_cmp_is x y Equal alike))
+    ∙ head-same n xs ys of_a.1 of_b.1 (omega (arith, a_fits)) (omega (arith, b_fits)) (omega (arith, same, equal))
+    ∙ cmp-suc (length xs) (length ys))
+    (λ differ. ⊎_elim
+    (λ before.
+    let more = outweighs y x (256 ^ n) (head_by n xs) before (head-below n xs of_a.1) in
+    absurd (omega (arith, same, more)))
+    (λ after.
+    let more = outweighs x y (256 ^ n) (head_by n ys) after (head-below n ys of_b.1) in
+    absurd (omega (arith, same, more)))
+    differ)
+    (cases_order x y)
+
+pub same-by-head : (head other : ℕ) (a b : List ℕ) → IsHeaded head a → IsHeaded other b → head ≡ other
+    → length a ≤ 8 → length b ≤ 8 → slice_cmp nat_cmp a b ≡ nat_cmp (length a) (length b)
+same-by-head head other a b of_a of_b same a_fits b_fits =
+    head-same 8 a b of_a.bytes of_b.bytes a_fits b_fits (sym of_a.is ∙ same ∙ of_b.is)

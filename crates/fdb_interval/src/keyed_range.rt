@@ -1,27 +1,34 @@
 // The bounds of a range as keys of a map.
-ghost use Rattle.std.specs.Prelude.{◌≡◌, IfOk};
+ghost use Rattle.std.specs.Prelude.{◌≡◌, IfOk, false};
+ghost use Rattle.fdb_keys.specs.Points.{point_lt};
 
 use crate::point_key::PointKey;
 use fdb_keys::KeyRange;
 use std::alloc::AllocError;
 use std::marker::Model;
 
+/// The bounds of a range as keys of a map.
 #[derive(Drop)]
-pub(crate) struct KeyedRange {
+pub struct KeyedRange {
     begin: PointKey,
     end: PointKey,
 }
 
 impl Model for KeyedRange {
+    ghost use Rattle.std.specs.Prelude.{◌≡◌, false};
+    ghost use Rattle.fdb_keys.specs.Points.{point_lt};
     ghost use Rattle.fdb_keys.specs.Ranges.{Range};
 
     ghost Value = { Range };
 
     ghost view = { λ range. record { begin = range.begin; end = range.end } };
+
+    ghost invariant = { λ range. point_lt range.end range.begin ≡ false };
 }
 
 impl KeyedRange {
-    pub(crate) fn new(range: &KeyRange) -> Result<Self, AllocError>
+    /// The bounds of the range, whose texts are shared.
+    pub fn new(range: &KeyRange) -> Result<Self, AllocError>
         ensures { IfOk result (λ keyed. keyed ≡ range.now) }
     {
         // It tells that the begin is a legal bound.
@@ -31,14 +38,17 @@ impl KeyedRange {
         Ok(KeyedRange { begin, end })
     }
 
-    pub(crate) fn begin(&self) -> &PointKey
+    /// The first point of the range, if it has one.
+    pub fn begin(&self) -> &PointKey
         ensures { result.now ≡ self.now.begin }
     {
         &self.begin
     }
 
-    pub(crate) fn end(&self) -> &PointKey
-        ensures { result.now ≡ self.now.end }
+    /// The point behind it. It doesn't come before the begin.
+    pub fn end(&self) -> &PointKey
+        ensures value { result.now ≡ self.now.end }
+        ensures order { point_lt self.now.end self.now.begin ≡ false }
     {
         &self.end
     }

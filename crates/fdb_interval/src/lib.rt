@@ -1,4 +1,4 @@
-//! The version of the last write at each point of the keys.
+//! The version of the last write at each point of the keys, and points as keys of maps.
 #![tactic(auto)]
 
 mod breakpoints;
@@ -9,4 +9,6 @@ mod newer;
 mod point_key;
 mod sweeping;
 
+pub use keyed_range::KeyedRange;
 pub use last_commit::LastCommit;
+pub use point_key::PointKey;

@@ -4,10 +4,11 @@ ghost use Rattle.std.specs.Ordering.{nat_cmp};
 ghost use Rattle.std.specs.Cmp.Lexicographic.{pointwise, slice_cmp, nat_list_eq_equiv, nat_list_cmp_total};
 ghost use Rattle.std.specs.Cmp.Lexicographic.{texts_ties, texts_po};
 ghost use Rattle.std.specs.Cmp.{partial_equiv_from_equiv};
-ghost use Rattle.fdb_keys.specs.Texts.{is_bound};
+ghost use Rattle.fdb_keys.specs.Texts.{is_bound, is_key};
 ghost use Rattle.fdb_interval.specs.Heads.{head_by, AreBytes};
 
 use bytes::Bytes;
+use fdb_keys::Key;
 use std::alloc::AllocError;
 use std::cmp::Ordering;
 use std::marker::Model;
@@ -15,11 +16,11 @@ use std::marker::Model;
 // How many bytes of a text its head has.
 const HEAD: usize = 8;
 
-// The text of a point beside its head, the number that its first bytes make. Keys that differ in their heads are
-// compared by these, so that a map seldom reads their texts, which lie elsewhere; others are compared by their texts as
-// well. The text is a legal bound, so that two points are the bounds of a range.
+/// The text of a point beside its head, the number that its first bytes make. Keys that differ in their heads are
+/// compared by these, so that a map seldom reads their texts, which lie elsewhere; others are compared by their texts as
+/// well. The text is a legal bound, so that two points are the bounds of a range.
 #[derive(Drop)]
-pub(crate) struct PointKey {
+pub struct PointKey {
     head: u64,
     text: Bytes,
 }
@@ -48,7 +49,8 @@ impl PointKey {
         }
     }
 
-    pub(crate) fn new(text: &Bytes) -> Result<Self, AllocError>
+    /// The key of a map for a legal bound. Its text is shared, and no byte of it is copied.
+    pub fn new(text: &Bytes) -> Result<Self, AllocError>
         requires { IsTrue (is_bound text.now) }
         ensures { IfOk result (λ key. key ≡ text.now) }
     {
@@ -57,14 +59,22 @@ impl PointKey {
         Ok(PointKey { head, text })
     }
 
+    /// The same for a key.
+    pub fn at(key: &Key) -> Result<Self, AllocError>
+        ensures value { IfOk result (λ point. point ≡ key.now) }
+        ensures legal { IsTrue (is_key key.now) }
+    {
+        PointKey::new(key.text())
+    }
+
     pub(crate) fn as_slice(&self) -> &[u8]
         ensures { result.now ≡ self.now }
     {
         self.text.as_slice()
     }
 
-    // The text, of which a clone copies no byte.
-    pub(crate) fn text(&self) -> &Bytes
+    /// The text, of which a clone copies no byte.
+    pub fn text(&self) -> &Bytes
         ensures value { result.now ≡ self.now }
         ensures legal { IsTrue (is_bound self.now) }
     {
@@ -141,6 +151,10 @@ impl Ord for PointKey {
         }
         if other.head < self.head {
             return Ordering::Greater;
+        }
+        // Both heads are the same, and have all of texts as short as they are: one goes on from the other one with zeros.
+        if self.text.len() <= HEAD && other.text.len() <= HEAD {
+            return self.text.len().cmp(&other.text.len());
         }
         self.text.cmp(&other.text)
     }

@@ -1,6 +1,6 @@
 -- What stands in lists of versions, and at keys once something was put there.
 use Rattle.std.proofs.Common.{◌≡◌, ◌∙◌, sym, ap, refl, subst, ℕ, ◌≤◌, ◌<◌, nat_le, Bool, true, false, cond}
-use Rattle.std.proofs.Common.{List, Option, Some, None, is_some, if◌then◌else◌, arith, ⊎_elim}
+use Rattle.std.proofs.Common.{List, ◌∷◌, Option, Some, None, is_some, if◌then◌else◌, arith, ⊎_elim}
 use Rattle.std.specs.Prelude.{OnOk}
 use Rattle.std.proofs.Common.{Result, Ok, Err}
 use Rattle.std.specs.BTreeMap.{is_at}
@@ -64,6 +64,15 @@ module _ (key : Point) (versions : Option (List VersionedValue)) (old new : Vers
       (subst (λ (o : Option (List VersionedValue)). AreUpTo v (listed o)) (sym found-here) up_to))
       (λ other. subst (λ (o : Option (List VersionedValue)). AreUpTo v (listed o)) (sym (found-elsewhere x other))
       (ended x))
+
+-- ---- going through the keys
+pub found-first : (key x : Point) (versions : List VersionedValue) (keys : VersionedKeys) → point_eq x key ≡ true
+    → found ((x, versions) ∷ keys) key ≡ Some versions
+found-first key x versions keys same = cond-true _ (Some versions) (found keys key) (same_point key x ∙ same)
+
+pub found-later : (key x : Point) (versions : List VersionedValue) (keys : VersionedKeys) → point_eq x key ≡ false
+    → found ((x, versions) ∷ keys) key ≡ found keys key
+found-later key x versions keys other = cond-false _ (Some versions) (found keys key) (same_point key x ∙ other)
 
 pub either_same : {A : Type 0} (t : Bool) (a : A) → (if t then a else a) ≡ a
 either_same true a = refl

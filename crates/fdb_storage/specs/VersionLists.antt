@@ -1,5 +1,5 @@
 -- What stood at a key when.
-use Rattle.std.specs.Prelude.{◌≢◌, ◌<◌, ◌≤◌, ⊤, ℕ, Bool, false, ◌+◌, ◌==◌, nat_le, nat_eq, fold}
+use Rattle.std.specs.Prelude.{◌≢◌, ◌<◌, ◌≤◌, ⊤, ℕ, Bool, true, false, ◌+◌, ◌==◌, nat_le, nat_eq, fold}
 use Rattle.std.specs.Prelude.{List, [], ◌∷◌, Option, None, is_some, if◌then◌else◌}
 use Rattle.std.specs.List.{AllByRecursion}
 use Rattle.std.specs.Option.{option_eq}
@@ -22,6 +22,10 @@ newest_of values = fold (λ (before : Option (List ℕ)) (next : VersionedValue)
 -- whether the last version is this one
 abbrev pub ends_at : ℕ → List VersionedValue → Bool
 ends_at v values = fold (λ (before : Bool) (next : VersionedValue). next.version == v) false values
+
+-- whether the last version, if there is one, is at most this one
+abbrev pub is_last_up_to : ℕ → List VersionedValue → Bool
+is_last_up_to v values = fold (λ (before : Bool) (next : VersionedValue). nat_le next.version v) true values
 
 -- each version is at most this one
 abbrev pub AreUpTo : ℕ → List VersionedValue → Type 0

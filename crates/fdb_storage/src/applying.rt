@@ -6,17 +6,17 @@ ghost use Rattle.fdb_txn.specs.rules.Messages.{mutations_in};
 ghost use Rattle.fdb_mutations.specs.Mutations.{value_after};
 ghost use Rattle.fdb_storage.specs.Changes.{HaveChanged, HaveChangedIn, HaveFollowed, changed_by};
 ghost use Rattle.fdb_storage.specs.VersionMaps.{EndBy, HaveLegalKeys};
-ghost use Rattle.fdb_storage.specs.Changes.{new_at, cleared_in};
+ghost use Rattle.fdb_storage.specs.Changes.{cleared_in};
 
 use crate::version_map::VersionMap;
-use fdb_keys::{Key, KeyRange, Refusal};
+use fdb_keys::{KeyRange, Refusal};
 use fdb_log::TagMsg;
 use fdb_mutations::{Mutation, Named};
 use std::alloc::{AllocError, Global};
 
 /// Applies what the messages, which rise after the version, change in the range. Refused only as `NoMemory`, and then
-/// nothing is said of the values. Each mutation of a key takes O(log n) comparisons for n keys, and one that clears a
-/// range as many and O(log n) for each key that it clears.
+/// nothing is said of the values. Each mutation of a key takes O(log n) comparisons for n keys and versions, and one that
+/// clears a range as many and O(log n) for each key that it clears.
 pub(crate) fn apply_messages(
     alloc: Global,
     map: &mut VersionMap,
@@ -69,31 +69,13 @@ fn apply_mutation(
         map.old.keys.entries map.new.keys.entries) }
 {
     match mutation.named() {
-        Named::Key(key) if range.contains(key) => change_key(alloc, map, version, key, mutation),
+        Named::Key(key) if range.contains(key) => map.change(alloc, version, key, mutation),
         Named::Key(_key) => Ok(()),
         Named::Range(cleared) => {
             clear_range(alloc, map, version, cleared)?;
             Ok(())
         }
     }
-}
-
-// Applies a mutation of the key.
-fn change_key(
-    alloc: Global,
-    map: &mut VersionMap,
-    version: u64,
-    key: &Key,
-    mutation: &Mutation,
-) -> Result<(), Refusal>
-    requires ended { EndBy version map.old.keys.entries }
-    requires legal_keys { HaveLegalKeys map.old.keys.entries }
-    ensures { Answers result None (λ _. HaveChanged version (new_at key.now mutation.now)
-        map.old.keys.entries map.new.keys.entries) }
-{
-    let value = mutation.apply_value(alloc, map.newest(key))?;
-    map.put(alloc, version, key, value)?;
-    Ok(())
 }
 
 // Lets nothing stand at the keys of the range from the version on.

@@ -12,6 +12,7 @@ ghost use Rattle.fdb_storage.specs.VersionMaps.{HaveLegalKeys, value_of};
 use crate::paging::page_of;
 use crate::version_list::VersionList;
 use bytes::Bytes;
+use fdb_interval::PointKey;
 use fdb_keys::{Key, KeyRange, Refusal};
 use fdb_mutations::{Mutation, PlainMap};
 use std::alloc::Global;
@@ -21,7 +22,7 @@ use std::collections::BTreeMap;
 /// `NoMemory`, and then some of the keys may have theirs.
 pub(crate) fn copy_part(
     alloc: Global,
-    keys: &BTreeMap<Bytes, VersionList>,
+    keys: &BTreeMap<PointKey, VersionList>,
     target: &mut PlainMap,
     part: &KeyRange,
     version: u64,

@@ -4,6 +4,7 @@
 mod applying;
 mod copying;
 mod cut_map;
+mod due_keys;
 pub mod laws;
 mod paging;
 mod replaying;

@@ -14,6 +14,7 @@ ghost use Rattle.fdb_storage.specs.VersionMaps.{AreSorted};
 
 use crate::version_list::VersionList;
 use bytes::Bytes;
+use fdb_interval::{KeyedRange, PointKey};
 use fdb_keys::{Items, Key, KeyRange, Refusal};
 use fdb_mutations::Page;
 use std::alloc::{AllocError, Global};
@@ -24,7 +25,7 @@ use std::collections::BTreeMap;
 /// versions of each pair and of each key between them at which nothing stands.
 pub(crate) fn page_of(
     alloc: Global,
-    keys: &BTreeMap<Bytes, VersionList>,
+    keys: &BTreeMap<PointKey, VersionList>,
     range: &KeyRange,
     version: u64,
     limit: u32,
@@ -48,14 +49,14 @@ pub(crate) fn page_of(
 }
 
 // The keys of a map rise. It does nothing else.
-fn know_rising(keys: &BTreeMap<Bytes, VersionList>)
+fn know_rising(keys: &BTreeMap<PointKey, VersionList>)
     ensures { AreSorted keys.now.entries }
 {
     let _count = keys.len();
 }
 
 // Cuts what was found at the limit, if there is one. Whether that left something out.
-fn cut(found: &mut Vec<(&Bytes, &VersionList)>, limit: u32) -> bool
+fn cut(found: &mut Vec<(&PointKey, &VersionList)>, limit: u32) -> bool
     ensures items { found.new.items ≡ (if result then take limit found.old.items else found.old.items) }
     ensures more { result ≡ (not (nat_eq limit 0) && nat_lt limit (length found.old.items)) }
 {
@@ -87,17 +88,18 @@ fn has_value(versions: &VersionList, version: u64) -> bool
 // it is 0.
 fn forward<'a>(
     alloc: Global,
-    keys: &'a BTreeMap<Bytes, VersionList>,
+    keys: &'a BTreeMap<PointKey, VersionList>,
     range: &KeyRange,
     version: u64,
     limit: u32,
-) -> Result<Vec<(&'a Bytes, &'a VersionList)>, AllocError>
+) -> Result<Vec<(&'a PointKey, &'a VersionList)>, AllocError>
     ensures { IfOk result (λ found. lent_keys found.items
         ≡ first_more limit (filter (is_live version) (keys_between range.now keys.now.entries))) }
 {
-    keys.range(range.begin_text()..range.end_text())
+    let keyed = KeyedRange::new(range)?;
+    keys.range(keyed.begin()..keyed.end())
         .filter(
-            |(_key, versions): &(&Bytes, &VersionList)| -> bool
+            |(_key, versions): &(&PointKey, &VersionList)| -> bool
                 ensures { result ≡ is_some (value_up_to version versions.entry.now.now) }
             { has_value(versions, version) },
         )
@@ -108,18 +110,19 @@ fn forward<'a>(
 // The last ones in the reverse order.
 fn backward<'a>(
     alloc: Global,
-    keys: &'a BTreeMap<Bytes, VersionList>,
+    keys: &'a BTreeMap<PointKey, VersionList>,
     range: &KeyRange,
     version: u64,
     limit: u32,
-) -> Result<Vec<(&'a Bytes, &'a VersionList)>, AllocError>
+) -> Result<Vec<(&'a PointKey, &'a VersionList)>, AllocError>
     ensures { IfOk result (λ found. lent_keys found.items
         ≡ first_more limit (filter (is_live version) (reverse (keys_between range.now keys.now.entries)))) }
 {
-    keys.range(range.begin_text()..range.end_text())
+    let keyed = KeyedRange::new(range)?;
+    keys.range(keyed.begin()..keyed.end())
         .rev()
         .filter(
-            |(_key, versions): &(&Bytes, &VersionList)| -> bool
+            |(_key, versions): &(&PointKey, &VersionList)| -> bool
                 ensures { result ≡ is_some (value_up_to version versions.entry.now.now) }
             { has_value(versions, version) },
         )
@@ -130,7 +133,7 @@ fn backward<'a>(
 // The keys, which are legal ones, each with what stands there at the version.
 fn copies(
     alloc: Global,
-    found: &[(&Bytes, &VersionList)],
+    found: &[(&PointKey, &VersionList)],
     version: u64,
 ) -> Result<Items<(Key, Bytes)>, Refusal>
     requires { AllByRecursion (λ held. is_key held.0 ≡ true) (lent_keys found.now) }
@@ -146,14 +149,14 @@ fn copies(
 // Adds the key with the value, if there is one.
 fn push_pair(
     pairs: &mut Items<(Key, Bytes)>,
-    key: &Bytes,
+    key: &PointKey,
     value: Option<&Bytes>,
 ) -> Result<(), AllocError>
     requires { IsTrue (is_key key.now) }
     ensures { OnOk result (pairs.new ≡ pairs.old ++ pair_of key.now (option_copied value.entry)) }
 {
     if let Some(value) = value {
-        let key = Key::from_text(key.clone()?);
+        let key = Key::from_text(key.text().clone()?);
         let value = value.clone()?;
         pairs.push((key, value))?;
     }

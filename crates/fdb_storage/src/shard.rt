@@ -71,7 +71,8 @@ impl Shard {
     /// still waits for its stamp, as `Stale` where they begin after an earlier version than the shard's, as `NotYet`
     /// with the version after which they begin where that is a later one, and as `NoMemory`. The shard stays as it was
     /// where it is refused, but for `NoMemory`, after which it has failed. A mutation of a key takes O(log n)
-    /// comparisons for n keys, and one that clears a range as many and O(log n) for each key that it clears.
+    /// comparisons for n keys and versions, and one that clears a range as many and O(log n) for each key that it
+    /// clears.
     pub fn apply(&mut self, peek: &Peek) -> Result<(), Refusal>
         requires { IsPeek peek.now }
         ensures answers { Answers result (apply_fault self.old peek.now) (λ _. HasApplied self.old peek.now self.new) }
@@ -154,8 +155,9 @@ impl Shard {
     }
 
     /// Raises the floor to the version, if it isn't above it already: earlier versions are no longer served. It takes
-    /// no memory, and O(log n) comparisons for n keys and each version that is no longer told apart. Refused as
-    /// `Failed` once memory ran out in `apply`, and as `FutureVersion` where the version is above the shard's.
+    /// no memory, and O(log n) comparisons for n keys and versions and each version that is no longer told apart.
+    /// Refused as `Failed` once memory ran out in `apply`, and as `FutureVersion` where the version is above the
+    /// shard's.
     pub fn forget(&mut self, version: u64) -> Result<(), Refusal>
         ensures answers { AnswersExactly result (forget_fault self.old version)
             (λ _. HasForgotten self.old version self.new) }

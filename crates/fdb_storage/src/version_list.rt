@@ -1,8 +1,8 @@
 // The versions of one key.
-ghost use Rattle.std.specs.Prelude.{◌≡◌, ◌++◌, ◌≤◌, ◌<◌, ℕ, nat_le, length, drop, is_some, if◌then◌else◌, OnOk};
+ghost use Rattle.std.specs.Prelude.{◌≡◌, ◌++◌, ◌≤◌, ◌<◌, ℕ, nat_le, length, drop, is_some, if◌then◌else◌, OnOk, IsTrue};
 ghost use Rattle.std.specs.Option.{option_copied};
 ghost use Rattle.fdb_storage.specs.VersionLists.{AreAbove, AreBelow, AreRising, AreUpTo, IsVersionList};
-ghost use Rattle.fdb_storage.specs.VersionLists.{ends_at, newest_of, same_value, value_up_to};
+ghost use Rattle.fdb_storage.specs.VersionLists.{ends_at, is_last_up_to, newest_of, same_value, value_up_to};
 
 use bytes::Bytes;
 use smallvec::SmallVec;
@@ -19,6 +19,8 @@ pub(crate) struct VersionedValue {
 /// What stood at a key, the newest last. Each value is another one than the one before it, and the first one is there.
 pub(crate) struct VersionList {
     values: SmallVec<VersionedValue, 1>,
+    // Whether the key is among those that are noted as having versions to drop.
+    is_due: bool,
 }
 
 impl Model for VersionList {
@@ -44,13 +46,17 @@ impl VersionList {
     {
         VersionList {
             values: SmallVec::new(alloc),
+            is_due: false,
         }
     }
 
-    /// What stands at the key at the version, in O(log n) comparisons for n versions.
+    /// What stands at the key at the version, in O(log n) comparisons for n versions, and in one from the newest on.
     pub(crate) fn value_at(&self, version: u64) -> Option<&Bytes>
         ensures { option_copied result ≡ value_up_to version self.now }
     {
+        if are_up_to(self.values.as_slice(), version) {
+            return self.newest();
+        }
         let (through, _above) = split_by(self.values.as_slice(), version);
         newest_of(through)
     }
@@ -88,16 +94,16 @@ impl VersionList {
         drop_first(&mut self.values, count);
     }
 
-    /// The same once what it would leave out is at least half of the versions: so a key that is written all the time
-    /// isn't moved for each version that is left out. It takes no memory, O(log n) comparisons, and O(1) amortised for
-    /// each version left out.
-    pub(crate) fn trim_by_half(&mut self, floor: u64)
-        ensures kept { (v : ℕ) → floor ≤ v → value_up_to v self.new ≡ value_up_to v self.old }
-        ensures up_to { (v : ℕ) → AreUpTo v self.old → AreUpTo v self.new }
+    /// Whether the key is among those that are noted as having versions to drop.
+    pub(crate) fn is_due(&self) -> bool {
+        self.is_due
+    }
+
+    /// Notes whether it is.
+    pub(crate) fn set_due(&mut self, is_due: bool)
+        ensures { self.new ≡ self.old }
     {
-        if self.kept_from(floor) <= self.len() / 2 {
-            self.trim(floor);
-        }
+        self.is_due = is_due;
     }
 
     /// Whether nothing ever stood at the key, as far as is kept.
@@ -105,6 +111,15 @@ impl VersionList {
         ensures { IsTrue result ↔ (self.now ≡ []) }
     {
         self.values.is_empty()
+    }
+
+    /// The version in the middle, which half of them come before, if there are several.
+    pub(crate) fn middle(&self) -> Option<u64> {
+        let values = self.values.as_slice();
+        if values.len() < 2 {
+            return None;
+        }
+        Some(values[values.len() / 2].version)
     }
 
     /// How many versions are kept.
@@ -128,7 +143,7 @@ impl VersionList {
 // Written out, so that what drops the cells of the values is proved here, and not anew wherever a list is dropped.
 impl Drop for VersionList {
     fn drop(self) {
-        let VersionList { values } = self;
+        let VersionList { values, is_due: _ } = self;
         drop(values);
     }
 }
@@ -165,6 +180,24 @@ fn ends_at(values: &[VersionedValue], version: u64) -> bool
     match values.last() {
         Some(last) => last.version == version,
         None => false,
+    }
+}
+
+// Whether no version is above this one.
+fn are_up_to(values: &[VersionedValue], version: u64) -> bool
+    requires { AreRising values.now }
+    ensures { IsTrue result → AreUpTo version values.now }
+{
+    is_last_up_to(values, version)
+}
+
+// Whether the last version, if there is one, isn't above this one.
+fn is_last_up_to(values: &[VersionedValue], version: u64) -> bool
+    ensures { result ≡ is_last_up_to version values.now }
+{
+    match values.last() {
+        Some(last) => last.version <= version,
+        None => true,
     }
 }
 

@@ -1,30 +1,40 @@
 // Keys in their order, each with its versions.
-ghost use Rattle.std.specs.Prelude.{◌≡◌, ◌++◌, ◌∷◌, [], OnOk, is_some, if◌then◌else◌};
-ghost use Rattle.fdb_storage.specs.VersionLists.{newest_of, AreUpTo};
+ghost use Rattle.std.specs.Prelude.{◌≡◌, ◌≤◌, ◌++◌, ◌∷◌, [], ℕ, None, IfSome, OnOk, is_some, if◌then◌else◌};
+ghost use Rattle.fdb_keys.specs.Answers.{Answers};
+ghost use Rattle.fdb_mutations.specs.Mutations.{new_value};
+ghost use Rattle.fdb_storage.specs.VersionLists.{newest_of, value_up_to, AreUpTo};
 ghost use Rattle.fdb_storage.specs.Changes.{HavePut};
 
+use crate::due_keys::DueKeys;
 use crate::version_list::VersionList;
 use bytes::Bytes;
-use fdb_keys::{Key, KeyRange};
+use fdb_interval::{KeyedRange, PointKey};
+use fdb_keys::{Key, KeyRange, Refusal};
+use fdb_mutations::Mutation;
 use std::alloc::{AllocError, Global};
-use std::collections::{BTreeMap, VecDeque};
+use std::collections::BTreeMap;
 
 #[derive(Drop)]
 pub(crate) struct VersionMap {
-    pub(crate) keys: BTreeMap<Bytes, VersionList>,
-    // The version and the key of each put that left something to drop once the floor reaches it, the oldest first.
-    pub(crate) dead: VecDeque<(u64, Bytes)>,
+    pub(crate) keys: BTreeMap<PointKey, VersionList>,
+    // The keys that have versions to drop. Each is there once, and not for each of its versions: at the version at which
+    // half of those that it had can go. So it is looked up once for several versions, and has at most about twice as many
+    // as are needed.
+    due: DueKeys,
 }
 
 impl VersionMap {
-    ghost use Rattle.std.specs.Prelude.{◌≡◌, ◌≤◌, ◌&&◌, [], ℕ, min, None, is_some, IfOk, OnOk, IsTrue};
+    ghost use Rattle.std.specs.Prelude.{◌≡◌, ◌≤◌, ◌&&◌, [], ℕ, min, None, is_some, IfOk, IfSome, OnOk, IsTrue};
     ghost use Rattle.std.specs.List.{list_any};
     ghost use Rattle.std.specs.Option.{option_copied};
     ghost use Rattle.fdb_keys.specs.Points.{Point, point_eq};
     ghost use Rattle.fdb_keys.specs.Ranges.{in_range};
+    ghost use Rattle.fdb_keys.specs.Answers.{Answers};
+    ghost use Rattle.fdb_keys.specs.Texts.{is_key};
     ghost use Rattle.fdb_storage.specs.VersionLists.{newest_of, kept_from};
-    ghost use Rattle.fdb_storage.specs.Changes.{HaveChanged};
-    ghost use Rattle.fdb_storage.specs.VersionMaps.{versions_at, versions_of, value_of, EndBy, HaveLegalKeys};
+    ghost use Rattle.fdb_storage.specs.VersionMaps.{versions_at};
+    ghost use Rattle.fdb_storage.specs.Changes.{HaveChanged, new_at};
+    ghost use Rattle.fdb_storage.specs.VersionMaps.{found, versions_of, value_of, EndBy, HaveLegalKeys};
     ghost use Rattle.fdb_storage.specs.Changes.{put_at};
     ghost use Rattle.fdb_storage.specs.VersionMaps.{HaveForgotten};
 
@@ -34,7 +44,7 @@ impl VersionMap {
     {
         VersionMap {
             keys: BTreeMap::new(alloc),
-            dead: VecDeque::new(alloc),
+            due: DueKeys::new(alloc),
         }
     }
 
@@ -42,18 +52,8 @@ impl VersionMap {
     pub(crate) fn value_at(&self, key: &Key, version: u64) -> Option<&Bytes>
         ensures { option_copied result ≡ value_of self.now.keys.entries version key.now }
     {
-        match self.keys.get(key.text()) {
+        match self.versions_of_key(key) {
             Some(versions) => versions.value_at(version),
-            None => None,
-        }
-    }
-
-    /// What stands at the key from its newest version on, in O(log n) comparisons for n keys.
-    pub(crate) fn newest(&self, key: &Key) -> Option<&Bytes>
-        ensures { option_copied result ≡ newest_of (versions_at self.now.keys.entries key.now) }
-    {
-        match self.keys.get(key.text()) {
-            Some(versions) => versions.newest(),
             None => None,
         }
     }
@@ -64,10 +64,33 @@ impl VersionMap {
         ensures { (through : ℕ) → floor ≤ through → EndBy through self.now.keys.entries
             → result ≡ kept_from (λ (v : ℕ). value_of self.now.keys.entries v key.now) floor through }
     {
-        match self.keys.get(key.text()) {
+        match self.versions_of_key(key) {
             Some(versions) => versions.kept_from(floor),
             None => VersionList::new(alloc).kept_from(floor),
         }
+    }
+
+    // The versions of the key, if it is there, in O(log n) comparisons for n keys. Where its text can't be shared once
+    // more, all keys are gone through, so that this is never refused.
+    fn versions_of_key(&self, key: &Key) -> Option<&VersionList>
+        ensures { option_copied result ≡ found self.now.keys.entries key.now }
+    {
+        match PointKey::at(key) {
+            Ok(point) => self.keys.get(&point),
+            Err(_) => self.look_through(key),
+        }
+    }
+
+    // The same by the texts alone, in O(n) comparisons.
+    fn look_through(&self, key: &Key) -> Option<&VersionList>
+        ensures { option_copied result ≡ found self.now.keys.entries key.now }
+    {
+        for (point, versions) in &self.keys {
+            if point.text() == key.text() {
+                return Some(versions);
+            }
+        }
+        None
     }
 
     /// How many versions of all keys are kept, or the greatest number where they are more. It takes no memory, and O(n)
@@ -82,127 +105,205 @@ impl VersionMap {
         count
     }
 
-    /// Lets the value stand at the key from the version on, in O(log n) comparisons for n keys.
-    pub(crate) fn put(
+    /// Applies a mutation of the key from the version on, in O(log n) comparisons for n keys and versions: a key that is
+    /// there is looked up once. Refused only as `NoMemory`.
+    pub(crate) fn change(
         &mut self,
         alloc: Global,
         version: u64,
         key: &Key,
+        mutation: &Mutation,
+    ) -> Result<(), Refusal>
+        requires ended { EndBy version self.old.keys.entries }
+        requires legal_keys { HaveLegalKeys self.old.keys.entries }
+        ensures { Answers result None (λ _. HaveChanged version (new_at key.now mutation.now)
+            self.old.keys.entries self.new.keys.entries) }
+    {
+        let point = PointKey::at(key)?;
+        if let Some(versions) = self.keys.get_mut(&point) {
+            return change_in(alloc, versions, &mut self.due, version, point, mutation);
+        }
+        let value = mutation.apply_value(alloc, None)?;
+        self.put_first(alloc, version, point, value)?;
+        Ok(())
+    }
+
+    // Lets the value, if there is one, stand from the version on at the key, which isn't there.
+    fn put_first(
+        &mut self,
+        alloc: Global,
+        version: u64,
+        key: PointKey,
         value: Option<Bytes>,
     ) -> Result<(), AllocError>
         requires ended { EndBy version self.old.keys.entries }
         requires legal_keys { HaveLegalKeys self.old.keys.entries }
-        ensures { OnOk result (HaveChanged version (put_at key.now value) self.old.keys.entries self.new.keys.entries) }
+        requires legal { IsTrue (is_key key) }
+        requires absent { found self.old.keys.entries key ≡ None }
+        ensures { OnOk result (HaveChanged version (put_at key value) self.old.keys.entries self.new.keys.entries) }
     {
-        if let Some(versions) = self.keys.get_mut(key.text()) {
-            return put_in(versions, &mut self.dead, version, key.text(), value);
-        }
         if value.is_some() {
             let mut versions = VersionList::new(alloc);
             versions.put(version, value)?;
-            self.keys.insert(key.text().clone()?, versions)?;
+            self.keys.insert(key, versions)?;
         }
         Ok(())
     }
 
-    /// Lets nothing stand at the key from the version on, if it is there, in O(log n) comparisons for n keys.
-    pub(crate) fn clear(&mut self, version: u64, key: &Bytes) -> Result<(), AllocError>
+    /// Lets nothing stand at the key from the version on, if it is there, in O(log n) comparisons for n keys and
+    /// versions.
+    pub(crate) fn clear(&mut self, version: u64, key: &PointKey) -> Result<(), AllocError>
         requires ended { EndBy version self.old.keys.entries }
         requires legal_keys { HaveLegalKeys self.old.keys.entries }
         ensures { OnOk result (HaveChanged version (put_at key.now None) self.old.keys.entries self.new.keys.entries) }
     {
         if let Some(versions) = self.keys.get_mut(key) {
-            return put_in(versions, &mut self.dead, version, key, None);
+            return put_in(versions, &mut self.due, version, key.clone()?, None);
         }
         Ok(())
     }
 
     /// The keys of the range at which something stands from their newest version on, in O(log n) comparisons for n keys
     /// and O(1) for each key there.
-    pub(crate) fn live_in(&self, alloc: Global, range: &KeyRange) -> Result<Vec<Bytes>, AllocError>
+    pub(crate) fn live_in(
+        &self,
+        alloc: Global,
+        range: &KeyRange,
+    ) -> Result<Vec<PointKey>, AllocError>
         ensures { IfOk result (λ keys. (x : Point) → list_any (point_eq x) keys.items
             ≡ (in_range range.now x && is_some (newest_of (versions_at self.now.keys.entries x)))) }
     {
+        let keyed = KeyedRange::new(range)?;
         let mut keys = Vec::new(alloc);
-        for (key, versions) in self.keys.range(range.begin_text()..range.end_text()) {
+        for (key, versions) in self.keys.range(keyed.begin()..keyed.end()) {
             push_live(&mut keys, key, versions)?;
         }
         Ok(keys)
     }
 
-    /// Drops what no version from the floor on shows. It takes no memory, and O(log n) comparisons for n keys and each
-    /// put whose version the floor reached since.
+    /// Drops what no version from the floor on shows of each key of which that is at least about half. It takes no
+    /// memory, O(log n) comparisons for n keys and versions and each such key, and O(1) amortised for each version.
     pub(crate) fn forget(&mut self, floor: u64)
         ensures { HaveForgotten floor self.old.keys.entries self.new.keys.entries }
     {
-        for _count in 0..self.dead.len() {
-            match self.next_due(floor) {
-                Some(key) => self.trim(&key, floor),
+        for _count in 0..self.due.len() {
+            match self.due.next(floor) {
+                Some(keys) => self.trim_all(keys, floor),
                 None => return,
             }
         }
     }
 
-    // The key of the oldest put that left something to be dropped, where that is of a version up to the floor. It is
-    // taken off the list.
-    fn next_due(&mut self, floor: u64) -> Option<Bytes>
-        ensures { self.new.keys.entries ≡ self.old.keys.entries }
+    // The same of these keys, which were taken off those that are due.
+    fn trim_all(&mut self, keys: Vec<PointKey>, floor: u64)
+        ensures { HaveForgotten floor self.old.keys.entries self.new.keys.entries }
     {
-        match self.dead.front() {
-            Some((version, _key)) if *version <= floor => {}
-            _ => return None,
-        }
-        match self.dead.pop_front() {
-            Some((_version, key)) => Some(key),
-            None => None,
+        for key in keys {
+            self.trim(key, floor);
         }
     }
 
     // Drops what no version from the floor on shows of the key, and the key where nothing is left of it.
-    fn trim(&mut self, key: &Bytes, floor: u64)
+    fn trim(&mut self, key: PointKey, floor: u64)
         ensures { HaveForgotten floor self.old.keys.entries self.new.keys.entries }
     {
-        if self.trim_versions(key, floor) {
-            self.keys.remove(key);
+        if let Some(emptied) = self.trim_versions(key, floor) {
+            self.keys.remove(&emptied);
         }
     }
 
-    // Drops the versions of the key that no version from the floor on shows, once they are half of them. Whether none
-    // is left.
-    fn trim_versions(&mut self, key: &Bytes, floor: u64) -> bool
+    // Drops the versions of the key that no version from the floor on shows. The key comes back if none is left.
+    fn trim_versions(&mut self, key: PointKey, floor: u64) -> Option<PointKey>
         ensures forgotten { HaveForgotten floor self.old.keys.entries self.new.keys.entries }
-        ensures none { IsTrue result → versions_at self.new.keys.entries key.now ≡ [] }
+        ensures none { IfSome result (λ emptied. versions_at self.new.keys.entries emptied ≡ []) }
     {
-        match self.keys.get_mut(key) {
-            Some(versions) => {
-                versions.trim_by_half(floor);
-                versions.is_empty()
-            }
-            None => false,
+        match self.keys.get_mut(&key) {
+            Some(versions) => trim_in(versions, &mut self.due, key, floor),
+            None => None,
         }
     }
+}
+
+// Applies a mutation of the key, whose versions these are, from the version on.
+fn change_in(
+    alloc: Global,
+    versions: &mut VersionList,
+    due: &mut DueKeys,
+    version: u64,
+    key: PointKey,
+    mutation: &Mutation,
+) -> Result<(), Refusal>
+    requires { AreUpTo version versions.old }
+    ensures { Answers result None (λ _. HavePut version (new_value mutation.now (newest_of versions.old))
+        versions.old versions.new) }
+{
+    let value = mutation.apply_value(alloc, versions.newest())?;
+    put_in(versions, due, version, key, value)?;
+    Ok(())
 }
 
 // Lets the value stand at the key, whose versions these are, from the version on.
 fn put_in(
     versions: &mut VersionList,
-    dead: &mut VecDeque<(u64, Bytes)>,
+    due: &mut DueKeys,
     version: u64,
-    key: &Bytes,
+    key: PointKey,
     value: Option<Bytes>,
 ) -> Result<(), AllocError>
     requires { AreUpTo version versions.old }
     ensures { OnOk result (HavePut version value versions.old versions.new) }
 {
     versions.put(version, value)?;
-    if versions.len() != 1 {
-        dead.push_back((version, key.clone()?))?;
+    due.make_room(version)?;
+    if versions.len() != 1 && !versions.is_due() {
+        note_due(versions, due, version, key);
     }
     Ok(())
 }
 
+// Drops the versions that no version from the floor on shows of the key, whose versions these are and which was taken off
+// those that are due. The key comes back if none is left, and is noted anew if several are.
+fn trim_in(
+    versions: &mut VersionList,
+    due: &mut DueKeys,
+    key: PointKey,
+    floor: u64,
+) -> Option<PointKey>
+    ensures kept { (v : ℕ) → floor ≤ v → value_up_to v versions.new ≡ value_up_to v versions.old }
+    ensures up_to { (v : ℕ) → AreUpTo v versions.old → AreUpTo v versions.new }
+    ensures none { IfSome result (λ emptied. (emptied ≡ key) × (versions.new ≡ [])) }
+{
+    versions.trim(floor);
+    versions.set_due(false);
+    if versions.is_empty() {
+        return Some(key);
+    }
+    note_anew(versions, due, key);
+    None
+}
+
+// Notes the key, whose versions these are, at the one in the middle, if there are several.
+fn note_anew(versions: &mut VersionList, due: &mut DueKeys, key: PointKey)
+    ensures { versions.new ≡ versions.old }
+{
+    if let Some(middle) = versions.middle() {
+        note_due(versions, due, middle, key);
+    }
+}
+
+// Notes that the key, whose versions these are, has versions to drop once the floor reaches the version.
+fn note_due(versions: &mut VersionList, due: &mut DueKeys, version: u64, key: PointKey)
+    ensures { versions.new ≡ versions.old }
+{
+    versions.set_due(due.note(version, key));
+}
+
 // Adds the key if something stands there from its newest version on.
-fn push_live(keys: &mut Vec<Bytes>, key: &Bytes, versions: &VersionList) -> Result<(), AllocError>
+fn push_live(
+    keys: &mut Vec<PointKey>,
+    key: &PointKey,
+    versions: &VersionList,
+) -> Result<(), AllocError>
     ensures { OnOk result (keys.new.items
         ≡ keys.old.items ++ (if is_some (newest_of versions.now) then key.now ∷ [] else [])) }
 {

@@ -4,7 +4,7 @@ use Rattle.fdb_interval.proofs.breakpoints.is_newer_inside.Goals as goal
 
 pub range-begin-items-requires : goal.range-begin-items-requires
 range-begin-items-requires c =
-    rw (c.begin.ensures, c.end.ensures)
+    rw (c.begin.ensures, c.end.ensures.value)
     (cmp_less c.args.range.now.begin c.args.range.now.end c.requires)
 
 pub returns-then-version-held-clause-rising : goal.returns-then-version-held-clause-rising

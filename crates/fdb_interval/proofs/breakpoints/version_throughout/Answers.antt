@@ -34,7 +34,7 @@ returns-in-Some-2-clause-version c =
     let up_to : point_lt range.begin c.in-Some.point.now ≡ false = search rules in
     value-throughout entries c.next_back.new.self (c.in-Some.point.now, c.in-Some._version.now) range.begin range.end
     (rising_from_sorted entries c.range.ensures.ordered) c.requires
-    (by_text entries _ range.end c.end.result.now c.end.ensures (c.range.ensures.between tt)
+    (by_text entries _ range.end c.end.result.now c.end.ensures.value (c.range.ensures.between tt)
     ∙ c.in-Some.ensures.steps) 0 up_to
 
 pub returns-in-Some-2-clause-inside : goal.returns-in-Some-2-clause-inside
@@ -44,7 +44,7 @@ returns-in-Some-2-clause-inside c =
     let up_to : point_lt range.begin c.in-Some.point.now ≡ false = search rules in
     none-inside entries c.next_back.new.self (c.in-Some.point.now, c.in-Some._version.now) range.begin range.end
     (rising_from_sorted entries c.range.ensures.ordered) c.requires
-    (by_text entries _ range.end c.end.result.now c.end.ensures (c.range.ensures.between tt)
+    (by_text entries _ range.end c.end.result.now c.end.ensures.value (c.range.ensures.between tt)
     ∙ c.in-Some.ensures.steps) up_to
 
 pub returns-in-Some-2-clause-before : goal.returns-in-Some-2-clause-before
@@ -54,7 +54,7 @@ returns-in-Some-2-clause-before c = λ not_begins.
     let before : c.is_before-in-Some-2.result ≡ point_lt c.in-Some.point.now range.begin = search rules in
     before-throughout entries c.next_back.new.self (c.in-Some.point.now, c.in-Some._version.now) range.begin range.end
     (rising_from_sorted entries c.range.ensures.ordered) c.requires
-    (by_text entries _ range.end c.end.result.now c.end.ensures (c.range.ensures.between tt)
+    (by_text entries _ range.end c.end.result.now c.end.ensures.value (c.range.ensures.between tt)
     ∙ c.in-Some.ensures.steps) 0 (sym before ∙ not-false _ not_begins)
 
 pub returns-in-None-clause-version : goal.returns-in-None-clause-version
@@ -62,7 +62,7 @@ returns-in-None-clause-version c =
     let entries = c.args.breaks.now.entries in
     value-nowhere entries c.args.range.now.begin c.args.range.now.end
     (rising_from_sorted entries c.range.ensures.ordered) c.requires
-    (by_text entries _ c.args.range.now.end c.end.result.now c.end.ensures (c.range.ensures.between tt)
+    (by_text entries _ c.args.range.now.end c.end.result.now c.end.ensures.value (c.range.ensures.between tt)
     ∙ c.in-None.ensures.steps.0) 0
 
 pub returns-in-None-clause-inside : goal.returns-in-None-clause-inside
@@ -70,7 +70,7 @@ returns-in-None-clause-inside c =
     let entries = c.args.breaks.now.entries in
     none-anywhere entries c.args.range.now.begin c.args.range.now.end
     (rising_from_sorted entries c.range.ensures.ordered) c.requires
-    (by_text entries _ c.args.range.now.end c.end.result.now c.end.ensures (c.range.ensures.between tt)
+    (by_text entries _ c.args.range.now.end c.end.result.now c.end.ensures.value (c.range.ensures.between tt)
     ∙ c.in-None.ensures.steps.0)
 
 pub returns-in-None-clause-before : goal.returns-in-None-clause-before
@@ -78,5 +78,5 @@ returns-in-None-clause-before c = λ same.
     let entries = c.args.breaks.now.entries in
     before-nowhere entries c.args.range.now.begin c.args.range.now.end
     (rising_from_sorted entries c.range.ensures.ordered) c.requires
-    (by_text entries _ c.args.range.now.end c.end.result.now c.end.ensures (c.range.ensures.between tt)
+    (by_text entries _ c.args.range.now.end c.end.result.now c.end.ensures.value (c.range.ensures.between tt)
     ∙ c.in-None.ensures.steps.0) 0

@@ -6,11 +6,11 @@ use Rattle.fdb_storage.proofs.applying.apply_mutation.Goals as goal
 
 pub returns-in-Key : goal.returns-in-Key
 returns-in-Key c =
-    answers-then c.change_key.result _ _
+    answers-then c.change.result _ _
     (λ changed. changed-in c.args.range.now c.args.version (λ x before. value_after x before c.args.mutation.now)
-    c.args.map.now.keys.entries c.change_key.new.map.keys.entries
+    c.args.map.now.keys.entries c.change.new.self.keys.entries
     (changed-mutation_key c.args.version c.in-Key.key.now c.args.mutation.now c.args.map.now.keys.entries
-    c.change_key.new.map.keys.entries c.in-Key.ensures changed)) c.change_key.ensures
+    c.change.new.self.keys.entries c.in-Key.ensures changed)) c.change.ensures
 
 pub returns-in-Key-2 : goal.returns-in-Key-2
 returns-in-Key-2 c =

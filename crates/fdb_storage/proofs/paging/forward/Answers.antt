@@ -1,7 +1,8 @@
-use Rattle.std.proofs.Common.{◌≡◌, subst, IfOk, rules, tests}
+use Rattle.std.proofs.Common.{◌≡◌, ◌∙◌, ap, subst, IfOk, rules, tests}
 use Rattle.std.proofs.lemmas.Iterator.{YieldsList-from_take}
 use Rattle.std.proofs.lemmas.Iterator.Consumers.{YieldsList-from_rest, YieldsList-from_filter, YieldsList-at}
 use Rattle.std.proofs.lemmas.Iterator.Consumers.{map_from_collect}
+use Rattle.fdb_keys.specs.Ranges.{Range}
 use Rattle.fdb_storage.specs.KeyPages.{is_live, lent_keys}
 use Rattle.fdb_storage.specs.VersionMaps.{VersionedKeys}
 use Rattle.fdb_mutations.proofs.Exports.{forward-bounds}
@@ -10,14 +11,15 @@ use Rattle.fdb_storage.proofs.paging.forward.Goals as goal
 
 pub range-requires : goal.range-requires
 range-requires c =
-    forward-bounds c.begin_text.result.now c.end_text.result.now
-    (rw (c.begin_text.ensures, c.end_text.ensures.value) c.end_text.ensures.order)
+    forward-bounds c.begin.result.now c.end.result.now (rw (c.begin.ensures, c.end.ensures.value) c.end.ensures.order)
 
 pub returns : goal.returns
 returns c =
     subst (λ (keys : VersionedKeys). IfOk c.collect.result (λ found. lent_keys found.items ≡ keys))
-    (found-forward c.args.version c.args.range.now c.args.limit c.one_more.result c.begin_text.result.now
-    c.end_text.result.now c.args.keys.now.entries c.range.result c.begin_text.ensures c.end_text.ensures.value
+    (found-forward c.args.version c.args.range.now c.args.limit c.one_more.result c.begin.result.now
+    c.end.result.now c.args.keys.now.entries c.range.result
+    (c.begin.ensures ∙ ap (λ (range : Range). range.begin) c.in_ok-keyed.ensures)
+    (c.end.ensures.value ∙ ap (λ (range : Range). range.end) c.in_ok-keyed.ensures)
     (c.range.ensures.between tt) c.range.ensures.fits c.one_more.ensures)
     (map_from_collect c.collect.result c.collect.ensures.ran
     (YieldsList-from_take c.one_more.result

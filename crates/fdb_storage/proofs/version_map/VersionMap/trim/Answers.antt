@@ -1,9 +1,9 @@
 use Rattle.fdb_storage.proofs.ForgottenLemmas.{forgotten-then, forgotten-taken}
 use Rattle.fdb_storage.proofs.version_map.VersionMap.trim.Goals as goal
 
-pub returns-then-trim_versions : goal.returns-then-trim_versions
-returns-then-trim_versions c =
+pub returns-in-Some : goal.returns-in-Some
+returns-in-Some c =
     forgotten-then c.args.floor c.args.self.now.keys.entries c.trim_versions.new.self.keys.entries
     c.remove.new.self.entries c.trim_versions.ensures.forgotten
-    (forgotten-taken c.args.floor c.args.key.now c.trim_versions.new.self.keys.entries c.remove.new.self.entries
-    c.remove.ensures.updates.0 (c.trim_versions.ensures.none c.if-trim_versions.true))
+    (forgotten-taken c.args.floor c.in-Some.emptied c.trim_versions.new.self.keys.entries c.remove.new.self.entries
+    c.remove.ensures.updates.0 c.in-Some.ensures.none)

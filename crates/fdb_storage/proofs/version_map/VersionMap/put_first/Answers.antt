@@ -8,32 +8,18 @@ use Rattle.fdb_keys.specs.Points.{Point}
 use Rattle.fdb_storage.specs.VersionLists.{value_up_to}
 use Rattle.fdb_storage.specs.Changes.{put_at, HaveChanged}
 use Rattle.fdb_storage.specs.VersionMaps.{found, listed}
-use Rattle.fdb_storage.proofs.VersionsLemmas.{changed-put, changed-absent, put-parts, on_ok-then}
-use Rattle.fdb_storage.proofs.version_map.VersionMap.put.Goals as goal
+use Rattle.fdb_storage.proofs.VersionsLemmas.{changed-put, changed-absent, put-parts}
+use Rattle.fdb_storage.proofs.version_map.VersionMap.put_first.Goals as goal
 
 is_none : (value : Option (List ℕ)) → is_some value ≡ false → value ≡ None
 is_none None is = refl
 is_none (Some value) is = absurd (both_ways true is refl)
 
-pub returns-in-Some : goal.returns-in-Some
-returns-in-Some c =
-    let old = c.args.self.now.keys.entries in
-    let key = c.args.key.now in
-    let new = (c.get_mut.follows.lender c.put_in.new.versions).entries in
-    let there : (x : Point) → found new x
-    ≡ cond (is_at (slice_cmp nat_cmp key) x) (Some c.put_in.new.versions) (found old x)
-    = λ x. let follows = c.get_mut.follows.holds c.put_in.new.versions in search rules in
-    let was : found old key ≡ Some c.in-Some.versions.now = search rules in
-    on_ok-then c.put_in.result _ _
-    (λ put. changed-put c.args.version key c.args.value c.in-Some.versions.now c.put_in.new.versions old new there
-    (sym (ap listed was)) put c.requires.ended c.requires.legal_keys c.text.ensures.legal)
-    c.put_in.ensures
-
 pub returns-in_ok-insert : goal.returns-in_ok-insert
 returns-in_ok-insert c =
     let old = c.args.self.now.keys.entries in
-    let key = c.args.key.now in
-    let absent : found old key ≡ None = search rules in
+    let key = c.args.key in
+    let absent : found old key ≡ None = c.requires.absent in
     let there : (x : Point) → found c.insert.new.self.entries x
     ≡ cond (is_at (slice_cmp nat_cmp key) x) (Some c.put.new.self) (found old x)
     = λ x. search rules in
@@ -42,15 +28,12 @@ returns-in_ok-insert c =
     (put-parts c.args.version c.args.value [] c.put.new.self
     (λ v sooner. c.in_ok-put.ensures.before v sooner ∙ ap (value_up_to v) c.new-versions.ensures)
     c.in_ok-put.ensures.after c.in_ok-put.ensures.up_to)
-    c.requires.ended c.requires.legal_keys c.text.ensures.legal
+    c.requires.ended c.requires.legal_keys c.requires.legal
 
 pub returns-else-is_some : goal.returns-else-is_some
 returns-else-is_some c =
     let old = c.args.self.now.keys.entries in
-    let key = c.args.key.now in
-    let absent : found old key ≡ None = search rules in
-    let same : c.get_mut.follows.lender-at-none.entries ≡ old = search rules in
+    let key = c.args.key in
     let none : c.args.value ≡ None = is_none c.args.value (sym c.is_some.ensures ∙ c.if-is_some.false) in
-    subst (λ (value : Option (List ℕ)). HaveChanged c.args.version (put_at key value) old
-    c.get_mut.follows.lender-at-none.entries) (sym none)
-    (changed-absent c.args.version key old _ absent same c.requires.ended c.requires.legal_keys)
+    subst (λ (value : Option (List ℕ)). HaveChanged c.args.version (put_at key value) old old) (sym none)
+    (changed-absent c.args.version key old old c.requires.absent refl c.requires.ended c.requires.legal_keys)

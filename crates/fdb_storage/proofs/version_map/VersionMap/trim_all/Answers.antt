@@ -1,0 +1,11 @@
+use Rattle.fdb_storage.proofs.ForgottenLemmas.{forgotten-none, forgotten-then}
+use Rattle.fdb_storage.proofs.version_map.VersionMap.trim_all.Goals as goal
+
+pub loop-key-init : goal.loop-key-init
+loop-key-init c = forgotten-none c.args.floor c.args.self.now.keys.entries
+
+pub loop-key-preserved : goal.loop-key-preserved
+loop-key-preserved c =
+    forgotten-then c.args.floor c.args.self.now.keys.entries c.loop-key.self.keys.entries c.trim.new.self.keys.entries
+    c.loop-key.invariant
+    c.trim.ensures
