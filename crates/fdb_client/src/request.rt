@@ -2,7 +2,6 @@
 ghost use Rattle.std.specs.Prelude.{◌≡◌, ◌↔◌, List, [], None, true, IsTrue};
 ghost use Rattle.fdb_keys.specs.Answers.{Answers};
 ghost use Rattle.fdb_keys.specs.Insertion.{with_range};
-ghost use Rattle.fdb_keys.specs.Ranges.{single_range};
 ghost use Rattle.fdb_mutations.specs.Maps.{Map};
 ghost use Rattle.fdb_mutations.specs.Mutations.{named_range};
 ghost use Rattle.fdb_mutations.specs.PairLaws.{given_of};
@@ -13,6 +12,7 @@ ghost use Rattle.fdb_client.specs.Programs.{add_writes, add_mutation, decided_ra
 ghost use Rattle.fdb_client.specs.Programs.{mutations_of, commit_request_of};
 ghost use Rattle.fdb_client.specs.ProgramLaws.{is_ordinary, AgreeWhereOrdinary};
 
+use crate::conflict_set::ConflictSet;
 use crate::program::{Op, Reply, Transcript};
 use crate::reading::undecided_part;
 use bytes::Bytes;
@@ -21,42 +21,34 @@ use fdb_mutations::{Mutation, Named};
 use fdb_txn::Sealed;
 use std::alloc::Global;
 
-// Adds the key alone.
-fn add_key(alloc: Global, set: &mut TreeRangeSet, key: &Key) -> Result<(), Refusal>
-    ensures { Answers result None (λ _. set.new ≡ with_range (single_range key.now) set.old) }
-{
-    let range = KeyRange::single(alloc, key)?;
-    set.add(&range)
-}
-
 // Adds what the mutation names.
-fn add_named(alloc: Global, set: &mut TreeRangeSet, mutation: &Mutation) -> Result<(), Refusal>
+fn add_named(set: &mut ConflictSet, mutation: &Mutation) -> Result<(), Refusal>
     ensures { Answers result None (λ _. set.new ≡ with_range (named_range mutation.now) set.old) }
 {
     match mutation.named() {
-        Named::Key(key) => add_key(alloc, set, key),
+        Named::Key(key) => set.add_key(key),
         Named::Range(range) => set.add(range),
     }
 }
 
 // Adds what the operation writes.
-fn add_written(alloc: Global, writes: &mut TreeRangeSet, op: &Op) -> Result<(), Refusal>
+fn add_written(writes: &mut ConflictSet, op: &Op) -> Result<(), Refusal>
     ensures { Answers result None (λ _. writes.new ≡ add_writes op.now writes.old) }
 {
     match op {
-        Op::Write(mutation) => add_named(alloc, writes, mutation),
+        Op::Write(mutation) => add_named(writes, mutation),
         Op::AddWrite(range) => writes.add(range),
         Op::Get { .. } | Op::Range { .. } | Op::AddRead(_) => Ok(()),
     }
 }
 
 // The write set of the operations.
-fn written(alloc: Global, ops: &[(Op, Reply)]) -> Result<TreeRangeSet, Refusal>
+fn written(alloc: Global, ops: &[(Op, Reply)]) -> Result<ConflictSet, Refusal>
     ensures { Answers result None (λ writes. writes ≡ write_ranges (program ops.now)) }
 {
-    let mut writes = TreeRangeSet::new(alloc);
+    let mut writes = ConflictSet::new(alloc);
     for (op, _) in ops {
-        add_written(alloc, &mut writes, op)?;
+        add_written(&mut writes, op)?;
     }
     Ok(writes)
 }
@@ -95,10 +87,18 @@ pub(crate) fn listed(alloc: Global, ops: &[(Op, Reply)]) -> Result<Items<Mutatio
     ensures { Answers result None (λ mutations. mutations ≡ mutations_of (program ops.now)) }
 {
     let mut mutations = Items::new(alloc);
+    mutations.hold(count_of_writes(ops))?;
     for (op, _) in ops {
         add_listed(&mut mutations, op)?;
     }
     Ok(mutations)
+}
+
+// How many of the operations are writes.
+fn count_of_writes(ops: &[(Op, Reply)]) -> usize {
+    ops.iter()
+        .filter(|(op, _)| matches!(op, Op::Write(_)))
+        .count()
 }
 
 // Whether the operations have no mutation.
@@ -109,12 +109,26 @@ fn has_no_mutation(alloc: Global, ops: &[(Op, Reply)]) -> Result<bool, Refusal>
     Ok(mutations.is_empty())
 }
 
+// Adds what the mutation names, where it is looked for each time that a key or a range is read.
+fn add_decided_by(
+    alloc: Global,
+    decided: &mut TreeRangeSet,
+    mutation: &Mutation,
+) -> Result<(), Refusal>
+    ensures { Answers result None (λ _. decided.new ≡ with_range (named_range mutation.now) decided.old) }
+{
+    match mutation.named() {
+        Named::Key(key) => decided.add(&KeyRange::single(alloc, key)?),
+        Named::Range(range) => decided.add(range),
+    }
+}
+
 // Adds what the operation decides.
 fn add_settled(alloc: Global, decided: &mut TreeRangeSet, op: &Op) -> Result<(), Refusal>
     ensures { Answers result None (λ _. decided.new ≡ add_decided op.now decided.old) }
 {
     match op {
-        Op::Write(mutation) if mutation.is_blind() => add_named(alloc, decided, mutation),
+        Op::Write(mutation) if mutation.is_blind() => add_decided_by(alloc, decided, mutation),
         _ => Ok(()),
     }
 }
@@ -122,7 +136,7 @@ fn add_settled(alloc: Global, decided: &mut TreeRangeSet, op: &Op) -> Result<(),
 // Adds what a read of the range scanned, by the pairs that it was given, and no earlier operation decided.
 fn add_scan(
     alloc: Global,
-    reads: &mut TreeRangeSet,
+    reads: &mut ConflictSet,
     decided: &TreeRangeSet,
     range: &KeyRange,
     limit: u32,
@@ -140,7 +154,7 @@ fn add_scan(
 // Adds what the operation read that no earlier one decided.
 fn add_read(
     alloc: Global,
-    reads: &mut TreeRangeSet,
+    reads: &mut ConflictSet,
     decided: &TreeRangeSet,
     op: &Op,
     reply: &Reply,
@@ -160,7 +174,7 @@ fn add_read(
             if decided.contains(key) {
                 return Ok(());
             }
-            add_key(alloc, reads, key)
+            reads.add_key(key)
         }
         (
             Op::Range {
@@ -185,11 +199,11 @@ fn add_read(
 }
 
 // The read set of the operations, which were answered as on some map.
-fn read(alloc: Global, ops: &[(Op, Reply)]) -> Result<TreeRangeSet, Refusal>
+fn read(alloc: Global, ops: &[(Op, Reply)]) -> Result<ConflictSet, Refusal>
     requires { (map : Map) × AgreeWhereOrdinary (program ops.now) (replies_of ops.now) (exec map (program ops.now)) }
     ensures { Answers result None (λ reads. reads ≡ read_ranges (program ops.now) (replies_of ops.now)) }
 {
-    let mut reads = TreeRangeSet::new(alloc);
+    let mut reads = ConflictSet::new(alloc);
     let mut decided = TreeRangeSet::new(alloc);
     for (op, reply) in ops {
         add_read(alloc, &mut reads, &decided, op, reply)?;

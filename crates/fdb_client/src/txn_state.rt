@@ -372,12 +372,21 @@ impl TxnState {
         sealed_of(self.alloc, &self.transcript, reads, writes)
     }
 
-    // Its operations with their replies, alone.
+    // Its operations with their replies, alone, in no more room than they need: who keeps a transcript keeps many.
     pub(crate) fn into_transcript(self) -> Transcript
         ensures { result ≡ self.transcript }
     {
         let TxnState { transcript, .. } = self;
-        transcript
+        let Transcript {
+            id,
+            read_version,
+            ops,
+        } = transcript;
+        Transcript {
+            id,
+            read_version,
+            ops: fitted(ops),
+        }
     }
 
     // What is left to do of it: nothing, which takes no memory, or to commit it. A refusal hands it back.
@@ -398,6 +407,15 @@ impl TxnState {
             Err(why) => Err(Refused { why, back: self }),
         }
     }
+}
+
+// The list in no more room than it needs.
+fn fitted<T>(items: Items<T>) -> Items<T>
+    ensures { result ≡ items }
+{
+    let mut list = items.into_vec();
+    list.shrink_to_fit();
+    Items::from_vec(list)
 }
 
 // Whether a read of a key adds it to the read set.

@@ -24,7 +24,7 @@ pub returns-else-contains : goal.returns-else-contains
 returns-else-contains c earlier same =
     let key = c.in-Get-default-false-default.key in
     let is : c.args.op.now ≡ Get key false = search rules in
-    subst (λ (ranges : List Range). Answers c.add_key.result None (λ _. c.add_key.new.set ≡ ranges))
+    subst (λ (ranges : List Range). Answers c.add_key.result None (λ _. c.add_key.new.self ≡ ranges))
     (sym (reads-key earlier c.args.op.now key c.args.reply.now c.args.decided.now c.args.reads.now false
     is same (sym c.if-contains.false ∙ c.contains.ensures.value)))
-    c.add_key.ensures
+    c.add_key.ensures.answers
