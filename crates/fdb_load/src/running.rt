@@ -1,5 +1,5 @@
 // A database of its own for a load, from its start to its end.
-ghost use Rattle.std.specs.Prelude.{◌≡◌, ◌*◌, ◌-◌, length, IfOk, IfErr};
+ghost use Rattle.std.specs.Prelude.{◌≡◌, ◌*◌, ◌-◌, length, min, IfOk, IfErr};
 ghost use Rattle.fdb_keys.specs.declared.refusal.Refusal.TheVariants.{NoMemory};
 ghost use Rattle.fdb_load.specs.Reports.{IsReportOf};
 ghost use Rattle.fdb_load.specs.Stops.{StopsWith};
@@ -29,8 +29,10 @@ const BOOK: u32 = 1_048_576;
 /// How far each entry's version is above that of the one before it: 5,000 entries lie in the window.
 const ADVANCE: u64 = 1_000;
 
+/// The most logs of a load, which has no more of them than proxies of a kind.
 const LOGS: u32 = 2;
 
+/// The most shards of a load, which has no more of them than resolvers.
 const SHARDS: u32 = 3;
 
 /// Runs the load, with moves at the pace, and tells on `err` how far it is where that is asked for. Answers what came
@@ -53,18 +55,20 @@ pub fn run_load<R: Threads + Wait + Clock + Copy + Send + Sync + 'static, E: Sin
 }
 
 /// The configuration of the load's database, whose resolvers and shards have about as many keys of the workload each.
-/// Refused only as `NoMemory`. It takes O(n) time for n resolvers.
+/// It has up to 2 logs, no more than proxies of a kind, and up to 3 shards, no more than resolvers: so a load of one of
+/// each has one of each. Refused only as `NoMemory`. It takes O(n) time for n resolvers.
 pub fn config_of(alloc: Global, load: &Load) -> Result<Config, Refusal>
     ensures refused { IfErr result (λ why. why ≡ NoMemory) }
     ensures config { IfOk result
-        (λ config. (config.proxies ≡ load.now.proxies) × (config.logs ≡ 2) × (config.book ≡ 1048576)
-        × (length config.resolver_splits ≡ load.now.resolvers - 1) × (length config.shard_splits ≡ 2)) }
+        (λ config. (config.proxies ≡ load.now.proxies) × (config.logs ≡ min load.now.proxies 2)
+        × (config.book ≡ 1048576) × (length config.resolver_splits ≡ load.now.resolvers - 1)
+        × (length config.shard_splits ≡ min load.now.resolvers 3 - 1)) }
 {
     let resolver_splits = even_splits(alloc, load.workload, load.resolvers)?;
-    let shard_splits = even_splits(alloc, load.workload, SHARDS)?;
+    let shard_splits = even_splits(alloc, load.workload, load.resolvers.min(SHARDS))?;
     Ok(Config {
         proxies: load.proxies,
-        logs: LOGS,
+        logs: load.proxies.min(LOGS),
         resolver_splits,
         shard_splits,
         book: BOOK,

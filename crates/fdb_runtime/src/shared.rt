@@ -20,6 +20,7 @@ use log::SharedLog;
 use shard::SharedShard;
 use std::alloc::Global;
 use std::sync::{Mutex, Wait};
+use waiting::take_lock;
 
 pub(crate) mod inbox;
 pub(crate) mod log;
@@ -118,9 +119,7 @@ impl<B: DatabaseName> Shared<B> {
         proxy: u32,
         asked: BatchMessage<B>,
     ) -> Result<Issued<B>, Refusal> {
-        self.sequencer
-            .lock(rt)
-            .issue(self.alloc, &self.book, proxy, self.advance, asked)
+        take_lock(rt, &self.sequencer).issue(self.alloc, &self.book, proxy, self.advance, asked)
     }
 
     /// Tells the sequencer that all logs have the front's last entry. Refused as `SequencerAt::report` refuses it.
@@ -131,31 +130,31 @@ impl<B: DatabaseName> Shared<B> {
     ) -> Result<Reported<B>, Refusal>
         ensures { IfOk result (λ reported. reported ≡ logged) }
     {
-        self.sequencer.lock(rt).report(logged)
+        take_lock(rt, &self.sequencer).report(logged)
     }
 
     /// Hands a move to the sequencer, as `SequencerAt::move_to` takes and refuses it.
     pub(crate) fn move_to<R: Wait>(&self, rt: &R, one_move: Move) -> Result<(), Refusal>
         ensures { AnswersMove (is_bad_move B.config one_move) result }
     {
-        self.sequencer.lock(rt).move_to(one_move)
+        take_lock(rt, &self.sequencer).move_to(one_move)
     }
 
     /// Hands a window to the sequencer, as `SequencerAt::set_window` takes and refuses it. It takes no memory.
     pub(crate) fn set_window<R: Wait>(&self, rt: &R, window: u64) -> Result<(), Refusal>
         ensures { AnswersExactly result (set_window_fault window) (λ _. ⊤) }
     {
-        self.sequencer.lock(rt).set_window(window)
+        take_lock(rt, &self.sequencer).set_window(window)
     }
 
     /// The greatest version that was reported. It takes no memory.
     pub(crate) fn committed<R: Wait>(&self, rt: &R) -> u64 {
-        self.sequencer.lock(rt).committed()
+        take_lock(rt, &self.sequencer).committed()
     }
 
     /// The greatest version that was reported, with a front that reaches it. Refused only as `NoMemory`.
     pub(crate) fn granted<R: Wait>(&self, rt: &R) -> Result<GrantMessage<B>, Refusal> {
-        self.sequencer.lock(rt).granted()
+        take_lock(rt, &self.sequencer).granted()
     }
 
     /// The log with the number, if there is one.

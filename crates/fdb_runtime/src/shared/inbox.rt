@@ -1,6 +1,6 @@
 ghost use Rattle.std.specs.Prelude.{◌≡◌, IfErr};
 
-use crate::shared::waiting::give_way;
+use crate::shared::waiting::{give_way, take_lock};
 use fdb_keys::{Refusal, Refused};
 use fdb_sections::Inbox;
 use std::alloc::Global;
@@ -27,27 +27,27 @@ impl<T: Drop> SharedInbox<T> {
     pub(crate) fn put<R: Wait>(&self, rt: &R, item: T) -> Result<(), Refused<T>>
         ensures { IfErr result (λ refused. refused.back ≡ item) }
     {
-        let answer = self.inbox.lock(rt).put(item);
+        let answer = take_lock(rt, &self.inbox).put(item);
         self.changed.notify_all();
         answer
     }
 
     /// Takes out all that waits, in order, and answers why the inbox ended, if it did. It takes no memory.
     pub(crate) fn take<R: Wait>(&self, rt: &R) -> (Vec<T>, Option<Refusal>) {
-        self.inbox.lock(rt).take_out()
+        take_lock(rt, &self.inbox).take_out()
     }
 
     /// The same once something waits or the inbox has ended. It takes no memory.
     pub(crate) fn next<R: Wait>(&self, rt: &R) -> (Vec<T>, Option<Refusal>) {
-        give_way(rt, &self.inbox, |inbox| inbox.is_idle());
-        let guard = self.inbox.lock(rt);
+        give_way(&self.inbox, &self.changed, |inbox| inbox.is_idle());
+        let guard = take_lock(rt, &self.inbox);
         let mut inbox = self.changed.wait_while(rt, guard, |inbox| inbox.is_idle());
         inbox.take_out()
     }
 
     /// Takes nothing any more, for the first reason that was given, and gives what waits. It takes no memory.
     pub(crate) fn end<R: Wait>(&self, rt: &R, why: Refusal) -> Vec<T> {
-        let waiting = self.inbox.lock(rt).end(why);
+        let waiting = take_lock(rt, &self.inbox).end(why);
         self.changed.notify_all();
         waiting
     }

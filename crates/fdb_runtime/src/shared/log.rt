@@ -1,4 +1,4 @@
-use crate::shared::waiting::give_way;
+use crate::shared::waiting::{give_way, take_lock};
 use fdb_keys::Refusal;
 use fdb_sections::{AckMessage, DatabaseName, LogAt, LogMessage, LogState, PullMachine};
 use std::sync::{Condvar, Mutex, Wait};
@@ -27,8 +27,8 @@ impl<B: DatabaseName> SharedLog<B> {
         message: &LogMessage<B>,
     ) -> Result<AckMessage<B>, Refusal> {
         let prev = message.prev();
-        give_way(rt, &self.state, |state| state.is_before(prev));
-        let guard = self.state.lock(rt);
+        give_way(&self.state, &self.changed, |state| state.is_before(prev));
+        let guard = take_lock(rt, &self.state);
         let mut state = self
             .changed
             .wait_while(rt, guard, |state| state.is_before(prev));
@@ -41,8 +41,8 @@ impl<B: DatabaseName> SharedLog<B> {
     /// Waits until there is a message after the version, or the log has ended, and lends the log to the pull, which
     /// takes what there is.
     pub(crate) fn peek<R: Wait>(&self, rt: &R, after: u64, pull: &mut PullMachine<B>) {
-        give_way(rt, &self.state, |state| state.is_behind(after));
-        let guard = self.state.lock(rt);
+        give_way(&self.state, &self.changed, |state| state.is_behind(after));
+        let guard = take_lock(rt, &self.state);
         let state = self
             .changed
             .wait_while(rt, guard, |state| state.is_behind(after));
@@ -51,19 +51,19 @@ impl<B: DatabaseName> SharedLog<B> {
 
     /// Lends the log to the pull, which has it drop what was applied. It takes no memory.
     pub(crate) fn drop_applied<R: Wait>(&self, rt: &R, pull: &mut PullMachine<B>) {
-        let mut state = self.state.lock(rt);
+        let mut state = take_lock(rt, &self.state);
         pull.drop_at(&mut state);
     }
 
     /// Nothing is pushed any more, for the first reason that was given, and nobody waits any longer. It takes no
     /// memory.
     pub(crate) fn end<R: Wait>(&self, rt: &R, why: Refusal) {
-        self.state.lock(rt).end(why);
+        take_lock(rt, &self.state).end(why);
         self.changed.notify_all();
     }
 
     /// Whether the log has failed. It takes no memory.
     pub(crate) fn is_failed<R: Wait>(&self, rt: &R) -> bool {
-        self.state.lock(rt).is_failed()
+        take_lock(rt, &self.state).is_failed()
     }
 }

@@ -1,7 +1,7 @@
 ghost use Rattle.std.specs.Prelude.{◌≡◌, ◌≤◌, false, IfOk};
 ghost use Rattle.std.specs.Sync.Mutex.{mutex_guard_value};
 
-use crate::shared::waiting::give_way;
+use crate::shared::waiting::{give_way, take_lock};
 use fdb_keys::{KeyRange, Refusal};
 use fdb_sections::{DatabaseName, PullMachine, ShardAt, ShardState};
 use std::alloc::{AllocError, Global};
@@ -33,8 +33,8 @@ impl<B: DatabaseName> SharedShard<B> {
         ensures { IfOk result (λ guard. let shard = (mutex_guard_value guard).at.shard in
             shard.is_failed ≡ false → version ≤ shard.version) }
     {
-        give_way(rt, &self.state, |state| state.is_behind(version));
-        let guard = self.state.lock(rt);
+        give_way(&self.state, &self.changed, |state| state.is_behind(version));
+        let guard = take_lock(rt, &self.state);
         let state = self
             .changed
             .wait_while(rt, guard, |state| state.is_behind(version));
@@ -44,7 +44,7 @@ impl<B: DatabaseName> SharedShard<B> {
 
     /// Lends the shard to the pull, which has it apply what its log gave, and wakes who waits for it.
     pub(crate) fn apply<R: Wait>(&self, rt: &R, pull: &mut PullMachine<B>) {
-        let mut state = self.state.lock(rt);
+        let mut state = take_lock(rt, &self.state);
         pull.apply_to(&mut state);
         drop(state);
         self.changed.notify_all();
@@ -52,20 +52,20 @@ impl<B: DatabaseName> SharedShard<B> {
 
     /// Lends the shard to the pull, which has it forget what is too old at the committed version. It takes no memory.
     pub(crate) fn forget<R: Wait>(&self, rt: &R, pull: &mut PullMachine<B>, committed: u64) {
-        let mut state = self.state.lock(rt);
+        let mut state = take_lock(rt, &self.state);
         pull.forget_in(&mut state, committed);
     }
 
     /// The shard's thread pulls nothing any more, for the first reason that was given, and nobody waits any longer. It
     /// takes no memory.
     pub(crate) fn end<R: Wait>(&self, rt: &R, why: Refusal) {
-        self.state.lock(rt).end(why);
+        take_lock(rt, &self.state).end(why);
         self.changed.notify_all();
     }
 
     /// Lends the shard as it is. It takes no memory.
     pub(crate) fn lock<'a, R: Wait>(&'a self, rt: &R) -> MutexGuard<'a, ShardState<B>> {
-        self.state.lock(rt)
+        take_lock(rt, &self.state)
     }
 
     /// Waits until the shard has come to the version, and tells whether the range goes on behind it. Its lock is held

@@ -1,6 +1,6 @@
 ghost use Rattle.std.specs.Prelude.{◌≡◌, Some, None};
 
-use crate::shared::waiting::give_way;
+use crate::shared::waiting::{give_way, take_lock};
 use std::mem;
 use std::sync::{Condvar, Mutex, Wait};
 
@@ -23,14 +23,14 @@ impl<T: Drop> Slot<T> {
 
     /// Gives the reply to who waits for it. It takes no memory, and O(1) time.
     pub(crate) fn put<R: Wait>(&self, rt: &R, reply: T) {
-        fill(&mut *self.reply.lock(rt), reply);
+        fill(&mut *take_lock(rt, &self.reply), reply);
         self.filled.notify_one();
     }
 
     /// Takes the reply, once it has come. It takes no memory.
     pub(crate) fn take<R: Wait>(&self, rt: &R) -> Option<T> {
-        give_way(rt, &self.reply, |reply| reply.is_none());
-        let guard = self.reply.lock(rt);
+        give_way(&self.reply, &self.filled, |reply| reply.is_none());
+        let guard = take_lock(rt, &self.reply);
         let mut reply = self.filled.wait_while(rt, guard, |reply| reply.is_none());
         take_out(&mut *reply)
     }
