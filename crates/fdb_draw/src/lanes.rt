@@ -1,85 +1,68 @@
 //! Who takes part in a run, from left to right.
 
-use crate::steps::{Step, word};
-use std::alloc::{AllocError, Global};
+use crate::steps::{Allocated, Step, number, word};
+use std::alloc::Global;
 use std::collections::BTreeSet;
+use std::fmt::{self, Write};
+use std::str::SplitTerminator;
 
-/// The kinds of those who take part, in the order of their lanes.
+/// One who takes part, by its number among those of its kind. They are in the order of their lanes.
 #[derive(Clone, Copy, PartialEq, Eq, PartialOrd, Ord)]
-pub enum Role {
-    Session,
-    ReadProxy,
-    CommitProxy,
+pub enum Party {
+    Session(usize),
+    ReadProxy(usize),
+    CommitProxy(usize),
     Sequencer,
-    Resolver,
-    Log,
-    Shard,
+    Resolver(usize),
+    Log(usize),
+    Shard(usize),
 }
 
-/// One who takes part: its role, and its number among those of the role.
-pub type Party = (Role, u32);
-
-/// Parties in the order of their lanes.
-pub type Parties = BTreeSet<Party>;
-
-/// Writes the name of a party.
-pub fn write_name((role, number): Party, out: &mut String) -> Result<(), AllocError> {
-    match role {
-        Role::Session => write!(out, "session {number}"),
-        Role::ReadProxy => write!(out, "read proxy {number}"),
-        Role::CommitProxy => write!(out, "commit proxy {number}"),
-        Role::Sequencer => out.push_str("sequencer"),
-        Role::Resolver => write!(out, "resolver {number}"),
-        Role::Log => write!(out, "log {number}"),
-        Role::Shard => write!(out, "shard {number}"),
+impl fmt::Display for Party {
+    fn fmt<W: Write>(&self, f: &mut fmt::Formatter<W>) -> fmt::Result {
+        match self {
+            Party::Session(number) => write!(f, "session {number}"),
+            Party::ReadProxy(number) => write!(f, "read proxy {number}"),
+            Party::CommitProxy(number) => write!(f, "commit proxy {number}"),
+            Party::Sequencer => write!(f, "sequencer"),
+            Party::Resolver(number) => write!(f, "resolver {number}"),
+            Party::Log(number) => write!(f, "log {number}"),
+            Party::Shard(number) => write!(f, "shard {number}"),
+        }
     }
 }
 
-/// The splits of the keys of which each of the role owns a piece, `-` where one owns all of them.
-pub fn splits_of(config: &str, role: Role) -> &str {
-    match role {
-        Role::Resolver => word(config, 6),
-        Role::Shard => word(config, 8),
-        _ => "-",
-    }
-}
-
-/// The key from which on the party owns keys at first, where it owns but a piece and not the first one.
-pub fn split_below(config: &str, (role, number): Party) -> Option<&str> {
-    let place = number.checked_sub(1)? as usize;
-    let mut splits = splits_of(config, role).split(',');
-    splits.nth(place).filter(|split| *split != "-")
-}
-
-/// Those who have a lane: the sessions that steps name, and as many others as the configuration has, which is the
-/// first step.
-pub fn lanes_of(alloc: Global, steps: &[Step<'_>]) -> Result<Parties, AllocError> {
+/// Those who have a lane: the sessions that ask for a transaction, and all others that the configuration has, which is
+/// the first step, where it was taken.
+pub fn lanes_of(alloc: Global, steps: &[Step<'_>]) -> Allocated<BTreeSet<Party>> {
     let mut lanes = BTreeSet::new(alloc);
-    for session in steps.iter().filter_map(|step| step.session()) {
-        lanes.insert(session)?;
-    }
-    if let Some(config) = steps.first().filter(|step| step.verb() == "config") {
-        add_lanes(Role::ReadProxy, config.number(2), &mut lanes)?;
-        add_lanes(Role::CommitProxy, config.number(2), &mut lanes)?;
-        add_lanes(Role::Sequencer, Some(1), &mut lanes)?;
-        add_lanes(Role::Resolver, pieces(word(config.line, 6)), &mut lanes)?;
-        add_lanes(Role::Log, config.number(4), &mut lanes)?;
-        add_lanes(Role::Shard, pieces(word(config.line, 8)), &mut lanes)?;
+    let asks = steps.iter().filter(|step| step.verb() == "ask");
+    let sessions = asks.filter_map(|ask| number(ask.line, 1));
+    lanes.extend(sessions.map(Party::Session))?;
+    if let Some(Step { line, answer: "ok" }) = steps.first() {
+        let proxies = number(line, 2).unwrap_or(0);
+        lanes.extend((0..proxies).map(Party::ReadProxy))?;
+        lanes.extend((0..proxies).map(Party::CommitProxy))?;
+        lanes.insert(Party::Sequencer)?;
+        lanes.extend((0..=splits(line, 6).count()).map(Party::Resolver))?;
+        lanes.extend((0..number(line, 4).unwrap_or(0)).map(Party::Log))?;
+        lanes.extend((0..=splits(line, 8).count()).map(Party::Shard))?;
     }
     Ok(lanes)
 }
 
-/// The most lanes of a role that a configuration makes.
-const LANE_LIMIT: u32 = 64;
-
-fn add_lanes(role: Role, count: Option<u32>, lanes: &mut Parties) -> Result<(), AllocError> {
-    for number in 0..count.unwrap_or(0).min(LANE_LIMIT) {
-        lanes.insert((role, number))?;
+/// The key from which on the party owns keys at first, where it owns but a piece and not the first one.
+pub fn begin_of(party: Party, config: &str) -> Option<&str> {
+    match party {
+        Party::Resolver(number) => splits(config, 6).nth(number.checked_sub(1)?),
+        Party::Shard(number) => splits(config, 8).nth(number.checked_sub(1)?),
+        _ => None,
     }
-    Ok(())
 }
 
-fn pieces(splits: &str) -> Option<u32> {
-    let cuts = splits.split(',').filter(|split| *split != "-").count();
-    u32::try_from(cuts).ok()?.checked_add(1)
+/// The splits that are the word at the place of a configuration: where the pieces of its keys begin, but the first one.
+pub fn splits(config: &str, place: usize) -> SplitTerminator<'_, char> {
+    let text = word(config, place);
+    let splits = text.strip_prefix('-').unwrap_or(text);
+    splits.split_terminator(',')
 }

@@ -1,10 +1,12 @@
 //! The steps of a script, each with what it answered.
 
-use crate::lanes::{Party, Role};
+use crate::lanes::Party;
 use std::alloc::{AllocError, Global};
 
-/// A line of a script and its answer, which is empty where nothing answered it. What was answered beyond the script's
-/// end has an empty line.
+/// What a call makes that fails only where memory runs out.
+pub type Allocated<T> = Result<T, AllocError>;
+
+/// A line of a script and its answer. What was answered beyond the script's end has an empty line.
 #[derive(Clone, Copy)]
 pub struct Step<'a> {
     pub line: &'a str,
@@ -17,31 +19,26 @@ impl<'a> Step<'a> {
         word(self.line, 0)
     }
 
-    /// A word of the line as a number, where it is one.
-    pub fn number(self, place: usize) -> Option<u32> {
-        word(self.line, place).parse().ok()
-    }
-
-    /// The one of the role that a word of the line numbers.
-    pub fn party(self, role: Role, place: usize) -> Option<Party> {
-        Some((role, self.number(place)?))
-    }
-
-    /// The session that the line names, where it is a session's.
-    pub fn session(self) -> Option<Party> {
-        match self.verb() {
-            "ask" | "submit" | "show" | "conflict" => self.party(Role::Session, 1),
-            "get" | "sget" | "range" | "srange" => self.party(Role::Session, 1),
-            "write" | "addread" | "addwrite" => self.party(Role::Session, 1),
-            _ => None,
-        }
-    }
-
     /// The session that a word of the answer tells of, where it is granted a read version or answered.
-    pub fn told_session(self, word: &str) -> Option<Party> {
-        let (session, _) = word.split_once('=')?;
+    pub fn told(self, word: &str) -> Option<Party> {
         let is_told = matches!(self.verb(), "grant" | "answer" | "drive");
-        is_told.then_some((Role::Session, session.parse().ok()?))
+        let (session, _) = word.split_once('=').filter(|_| is_told)?;
+        session.parse().ok().map(Party::Session)
+    }
+
+    /// What words of the step and its answer are like: good where they were acknowledged, bad where they were refused.
+    pub fn mood(self, words: &str) -> &'static str {
+        match self.verb() {
+            _ if matches!(word(self.answer, 0), "refused" | "bad") => "bad",
+            "conflict" => "bad",
+            "resolve" | "verdict" | "decide" if words.contains("=conflict") => "bad",
+            "resolve" | "verdict" | "decide" if words.contains("=old") => "bad",
+            "answer" | "drive" if words.ends_with("=1020") || words.ends_with("=1007") => "bad",
+            "answer" | "drive" if words.contains('/') => "good",
+            "report" | "logged" => "good",
+            "submit" if self.answer.starts_with("readonly") => "good",
+            _ => "plain",
+        }
     }
 }
 
@@ -50,20 +47,20 @@ pub fn word(text: &str, place: usize) -> &str {
     text.split_ascii_whitespace().nth(place).unwrap_or("")
 }
 
-/// The steps, and behind them what was answered beyond the script's end.
-pub fn steps_of<'a>(
-    alloc: Global,
-    script: &'a str,
-    answers: &'a str,
-) -> Result<Vec<Step<'a>>, AllocError> {
+/// The same as a number, where it is one.
+pub fn number(text: &str, place: usize) -> Option<usize> {
+    word(text, place).parse().ok()
+}
+
+/// The steps that were answered, and what was answered beyond the script's end.
+pub fn steps_of<'a>(alloc: Global, script: &'a str, answers: &'a str) -> Allocated<Vec<Step<'a>>> {
     let mut steps = Vec::new(alloc);
-    let mut told = answers.lines();
-    for line in script.lines() {
-        if !line.is_empty() && !line.starts_with('#') {
-            let answer = told.next().unwrap_or("");
-            steps.push(Step { line, answer })?;
-        }
+    let mut lines = script
+        .lines()
+        .filter(|line| !line.is_empty() && !line.starts_with('#'));
+    for answer in answers.lines() {
+        let line = lines.next().unwrap_or("");
+        steps.push(Step { line, answer })?;
     }
-    steps.extend(told.map(|answer| Step { line: "", answer }))?;
     Ok(steps)
 }

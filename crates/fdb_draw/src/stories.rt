@@ -1,87 +1,76 @@
 //! What the steps of a run are drawn as, each by what those before it told.
 
-use crate::lanes::{Parties, Party, Role, splits_of};
-use crate::steps::{Step, word};
-use std::alloc::{AllocError, Global};
+use crate::lanes::{Party, splits};
+use crate::steps::{Allocated, Step, number, word};
+use std::alloc::Global;
 use std::collections::{BTreeMap, BTreeSet};
 
 /// What the steps so far have told.
 #[derive(Drop)]
 pub struct Story<'a> {
     alloc: Global,
+    /// The first step's line.
     pub config: &'a str,
-    /// The steps that sealed an entry, and those by which a resolver judged it.
-    known: BTreeMap<(Option<u32>, Option<u32>), Step<'a>>,
+    /// The steps that sealed the entries, by their numbers.
+    seals: BTreeMap<Option<usize>, Step<'a>>,
+    /// What each resolver said of each entry, by their numbers.
+    verdicts: BTreeMap<(Option<usize>, Option<usize>), &'a str>,
     /// The sessions that were granted a read version and not answered since, in order.
-    pub open: Parties,
+    pub open: BTreeSet<Party>,
 }
 
 impl<'a> Story<'a> {
-    /// Nothing is told yet but the configuration.
-    pub fn new(alloc: Global, config: &'a str) -> Story<'a> {
+    /// Of the steps nothing is told yet but the configuration.
+    pub fn new(alloc: Global, steps: &[Step<'a>]) -> Story<'a> {
         Story {
             alloc,
-            config,
-            known: BTreeMap::new(alloc),
+            config: steps.first().map_or("", |step| step.line),
+            seals: BTreeMap::new(alloc),
+            verdicts: BTreeMap::new(alloc),
             open: BTreeSet::new(alloc),
         }
     }
 
     /// Keeps what the step answered for the steps after it.
-    pub fn note(&mut self, step: Step<'a>) -> Result<(), AllocError> {
-        let entry = match (step.verb(), word(step.answer, 0)) {
-            ("seal", "entry") => (word(step.answer, 1).parse().ok(), None),
-            ("resolve", "verdict") => (step.number(1), step.number(2)),
-            _ => return self.note_sessions(step),
-        };
-        self.known.insert(entry, step)?;
-        Ok(())
-    }
-
-    fn note_sessions(&mut self, step: Step<'a>) -> Result<(), AllocError> {
-        if let ("ask", "ok") | ("submit", "readonly") = (step.verb(), word(step.answer, 0))
-            && let Some(session) = step.session()
-        {
-            self.open.remove(&session);
+    pub fn note(&mut self, step: Step<'a>) -> Allocated<()> {
+        let (first, second) = (number(step.line, 1), number(step.line, 2));
+        match (step.verb(), word(step.answer, 0)) {
+            ("seal", "entry") => drop(self.seals.insert(number(step.answer, 1), step)?),
+            ("resolve", "verdict") => drop(self.verdicts.insert((first, second), step.answer)?),
+            ("ask", "ok") | ("submit", "readonly") => {
+                if let Some(session) = first {
+                    self.open.remove(&Party::Session(session));
+                }
+            }
+            _ => {}
         }
-        let words = step.answer.split_ascii_whitespace();
-        for session in words.filter_map(|word| step.told_session(word)) {
-            if step.verb() == "grant" {
-                self.open.insert(session)?;
-            } else {
-                self.open.remove(&session);
+        for word in step.answer.split_ascii_whitespace() {
+            match step.told(word) {
+                Some(session) if step.verb() == "grant" => drop(self.open.insert(session)?),
+                Some(session) => drop(self.open.remove(&session)),
+                None => {}
             }
         }
         Ok(())
     }
 
-    /// The seal of the entry that the step names.
-    fn seal(&self, step: Step<'a>) -> Option<Step<'a>> {
-        let is_of_entry = matches!(step.verb(), "resolve" | "verdict" | "push" | "logged");
-        let seal = self.known.get(&(step.number(1), None)).copied();
-        seal.filter(|_| is_of_entry)
-    }
-
-    /// What the step answered, or the verdicts that it brings.
-    pub fn told(&self, step: Step<'a>) -> &'a str {
-        let judged = self.known.get(&(step.number(1), step.number(2)));
-        match (step.verb(), step.answer, judged) {
-            ("verdict", "ok", Some(judged)) => judged.answer.strip_prefix("verdict ").unwrap_or(""),
-            (_, "ok", _) => "",
-            _ => step.answer,
-        }
-    }
-
-    /// The words of the step, and what it told unless that is told to sessions.
-    pub fn label(&self, step: Step<'a>) -> Result<String, AllocError> {
+    /// The words of the step, the version of the entry that it names, and what it answered or the verdicts that it
+    /// brings, unless that is told to sessions.
+    pub fn label(&self, step: Step<'a>) -> Allocated<String> {
+        let (entry, resolver) = (number(step.line, 1), number(step.line, 2));
+        let verdict = self.verdicts.get(&(entry, resolver));
+        let seal = self.seals.get(&entry);
         let mut label = String::from_str(self.alloc, step.line)?;
-        if let Some(seal) = self.seal(step) {
+        if let ("resolve" | "verdict" | "push" | "logged", Some(seal)) = (step.verb(), seal) {
             let version = word(seal.answer, 3);
             write!(label, " at {version}")?;
         }
-        let told = self.told(step);
-        let mut words = told.split_ascii_whitespace();
-        if !told.is_empty() && words.all(|word| step.told_session(word).is_none()) {
+        let told = match (step.verb(), word(step.answer, 0), verdict) {
+            ("verdict", "ok", Some(verdict)) => verdict.strip_prefix("verdict ").unwrap_or(""),
+            (_, "ok" | "grant" | "answer", _) => "",
+            _ => step.answer,
+        };
+        if !told.is_empty() {
             write!(label, " > {told}")?;
         }
         Ok(label)
@@ -89,48 +78,40 @@ impl<'a> Story<'a> {
 
     /// Who sends and who takes what the step sends, where it can be told, but for the sessions that its answer names.
     pub fn ends(&self, step: Step<'a>) -> (Option<Party>, Option<Party>) {
-        let seal = self.seal(step);
-        let sealer = seal.and_then(|seal| seal.party(Role::CommitProxy, 1));
-        let proxy = step.party(Role::CommitProxy, 1);
+        let (first, second) = (number(step.line, 1), number(step.line, 2));
+        let (session, proxy) = (first.map(Party::Session), first.map(Party::CommitProxy));
+        let (resolver, log) = (second.map(Party::Resolver), second.map(Party::Log));
+        let shard = first.map(Party::Shard);
+        let source = first.and_then(|shard| shard.checked_rem(number(self.config, 4)?));
+        let sealer = self.seals.get(&first).and_then(|seal| number(seal.line, 1));
+        let (source, sealer) = (source.map(Party::Log), sealer.map(Party::CommitProxy));
         match step.verb() {
-            "ask" => (step.session(), step.party(Role::ReadProxy, 2)),
-            "grant" => (step.party(Role::ReadProxy, 1), None),
-            "get" | "sget" | "range" | "srange" => (step.session(), self.owner(step)),
-            "submit" => (step.session(), step.party(Role::CommitProxy, 2)),
-            "seal" | "report" => (proxy, Some((Role::Sequencer, 0))),
+            "ask" => (session, second.map(Party::ReadProxy)),
+            "grant" => (first.map(Party::ReadProxy), None),
+            "get" | "sget" | "range" | "srange" => (session, self.owner(step.line)),
+            "write" | "addread" | "addwrite" | "show" | "conflict" => (session, None),
+            "submit" => (session, second.map(Party::CommitProxy)),
+            "seal" | "report" => (proxy, Some(Party::Sequencer)),
             "decide" | "answer" | "drive" => (proxy, None),
-            "resolve" => (step.party(Role::Resolver, 2), None),
-            "verdict" => (step.party(Role::Resolver, 2), sealer),
-            "push" => (sealer, step.party(Role::Log, 2)),
-            "logged" => (step.party(Role::Log, 2), sealer),
-            "pull" => (self.source(step), step.party(Role::Shard, 1)),
-            "move" => (step.party(Role::Resolver, 3), None),
-            "forget" | "pop" => (step.party(Role::Shard, 1), None),
-            _ => (step.session(), None),
+            "resolve" => (resolver, None),
+            "verdict" => (resolver, sealer),
+            "push" => (sealer, log),
+            "logged" => (log, sealer),
+            "pull" => (source, shard),
+            "move" => (number(step.line, 3).map(Party::Resolver), None),
+            "forget" => (shard, None),
+            "pop" => (shard, source),
+            _ => (None, None),
         }
     }
 
-    /// The log of the shard that the step names.
-    fn source(&self, step: Step<'_>) -> Option<Party> {
-        let logs: u32 = word(self.config, 4).parse().ok()?;
-        Some((Role::Log, step.number(1)?.checked_rem(logs)?))
-    }
-
-    /// The shard that owns the keys that the step names. A range that crosses shards is no one's.
-    fn owner(&self, step: Step<'_>) -> Option<Party> {
-        let first = self.shard_of(word(step.line, 2))?;
-        let end = word(step.line, 3);
-        let is_one = end.is_empty() || self.shard_of(end)? == first;
-        is_one.then_some((Role::Shard, first))
-    }
-
-    /// The number of the shard that owns the key, where the key and the splits have no escaped bytes.
-    fn shard_of(&self, key: &str) -> Option<u32> {
-        let splits = splits_of(self.config, Role::Shard);
-        match splits {
-            "-" => Some(0),
-            _ if splits.contains('%') || key.contains('%') => None,
-            _ => u32::try_from(splits.split(',').filter(|split| *split <= key).count()).ok(),
-        }
+    // The shard that owns all keys that a read names, where that is one, and no key has escaped bytes.
+    fn owner(&self, read: &str) -> Option<Party> {
+        let (begin, end) = (word(read, 2), word(read, 3));
+        let is_known = splits(self.config, 8).all(|split| {
+            !split.contains('%') && !read.contains('%') && (split <= begin || end <= split)
+        });
+        let before = splits(self.config, 8).filter(|split| *split <= begin);
+        is_known.then_some(Party::Shard(before.count()))
     }
 }

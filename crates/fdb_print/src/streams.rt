@@ -7,7 +7,7 @@ ghost use Rattle.std.specs.declared.io.Error.{Error};
 
 use std::fmt::Display;
 use std::io;
-use std::io::{BufWriter, Read, Stderr, Stdin, Write};
+use std::io::{BufWriter, LineWriter, Read, Stderr, Stdin, Write};
 
 /// A reader of which it is said which errors its reads answer.
 pub trait Source {
@@ -130,6 +130,20 @@ impl<W: Write + Drop> Sink for BufWriter<W> {
     ghost use Rattle.std.specs.Io.Buffered.{writer_contents};
 
     ghost contents = { writer_contents W.contents };
+
+    fn write_all(&mut self, bytes: &[u8]) -> io::Result<()> {
+        Write::write_all(self, bytes)
+    }
+
+    fn write_fmt<D: Display + Drop>(&mut self, text: D) -> io::Result<()> {
+        Write::write_fmt(self, text)
+    }
+}
+
+impl<W: Write + Drop> Sink for LineWriter<W> {
+    ghost use Rattle.std.specs.Io.Buffered.{line_writer_contents};
+
+    ghost contents = { line_writer_contents W.contents };
 
     fn write_all(&mut self, bytes: &[u8]) -> io::Result<()> {
         Write::write_all(self, bytes)

@@ -15,7 +15,7 @@ use Rattle.fdb_simulate.specs.declared.simulation.Simulation.{Simulation}
 use Rattle.fdb_simulate.specs.Reports.{SimulationPrints}
 use Rattle.fdb_sim.specs.command.Options.{IsWorkloadParser, commands}
 use Rattle.fdb_sim.specs.command.Tasks.{IsAsked}
-use Rattle.fdb_sim.specs.declared.command.task.Task.TheVariants.{Random, Run, Simulate, Threads}
+use Rattle.fdb_sim.specs.declared.command.task.Task.TheVariants.{Draw, Random, Run, Simulate, Threads}
 use Rattle.fdb_sim.specs.declared.command.task.Schedule.{Schedule}
 
 -- what an error of the kind leads to: help goes to the output with status 0, and of any other kind nothing does
@@ -51,6 +51,10 @@ Simulates app words old new status =
     × (asked : Simulation) × IsAsked (subcommand_of app words) (Simulate asked)
     × Printed old new (λ printed. SimulationPrints asked printed status)
 
+-- the words ask for a picture of the script's run, and nothing is said of what is printed
+abbrev pub DrawsRun : App → List Text → Type 0
+DrawsRun app words = (fault_of app words ≡ []) × IsAsked (subcommand_of app words) Draw
+
 -- the words are at fault, and end by the kind of one of their faults
 abbrev pub AreRefused : App → List Text → Option (List ℕ) → Option (List ℕ) → ℕ → Type 0
 AreRefused app words old new status =
@@ -70,10 +74,11 @@ ObeysBy app words input old new status =
     PlaysScript app words input old new status
     ⊎ (DrawsSteps app words old new status
     ⊎ (RunsThreads app words old new status
-    ⊎ (Simulates app words old new status ⊎ AreRefused app words old new status)))
+    ⊎ (Simulates app words old new status
+    ⊎ (DrawsRun app words ⊎ AreRefused app words old new status))))
 
 -- Words play the script of the input exactly where they ask for `run`, draw steps, run threads or simulate where they
--- ask for that, and else end by their fault, unless memory runs out.
+-- ask for that, and else ask for a picture or end by their fault, unless memory runs out.
 abbrev pub Obeys : List Text → Option (List ℕ) → Option (List ℕ) → Option (List ℕ) → Option (List ℕ)
     → Option (List ℕ) → ℕ → Type 0
 Obeys words input old new err_old err_new status =

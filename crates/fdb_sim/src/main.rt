@@ -1,6 +1,7 @@
 //! The simulator of the transaction system: `fdb_sim run` runs a script of steps, and prints what each step answers,
-//! `fdb_sim random` runs steps that are drawn from a seed, `fdb_sim threads` clients of a database in threads, and
-//! `fdb_sim simulate` clients of such a database in one thread, in an order that is drawn from a seed.
+//! `fdb_sim draw` draws that run, `fdb_sim random` runs steps that are drawn from a seed, `fdb_sim threads` clients of a
+//! database in threads, and `fdb_sim simulate` clients of such a database in one thread, in an order that is drawn from
+//! a seed.
 #![tactic(auto)]
 
 ghost use Rattle.std.specs.Prelude.{◌≡◌, ◌≤◌, IfOk};
@@ -13,7 +14,7 @@ mod tests;
 
 use crate::command::run_words;
 use std::alloc::Global;
-use std::io::{BufWriter, Write};
+use std::io::{LineWriter, Write};
 use std::process::ExitCode;
 use std::sync::Wait;
 use std::thread::Threads;
@@ -75,7 +76,8 @@ fn run_over_streams<R: Threads + Wait + Clock + Copy + Send + Sync + 'static>(
     ensures { IfOk result (λ status. status ≤ 2) }
 {
     let mut input = rt.stdin();
-    let mut out = BufWriter::new(alloc, rt.stdout())?;
+    // Who types a script, or waits for an answer before the next line, is answered line by line.
+    let mut out = LineWriter::new(alloc, rt.stdout())?;
     let mut err = rt.stderr();
     let ended = run_words(threads, alloc, words, &mut input, &mut out, &mut err);
     let flushed = out.flush();

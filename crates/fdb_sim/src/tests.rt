@@ -1,5 +1,6 @@
 mod answers;
 mod configs;
+mod drawing;
 mod failing;
 mod growths;
 mod hot_keys;

@@ -1,7 +1,7 @@
 -- Examples of words that give a command, of what they ask for, and of the kinds of the faults of words that don't.
-use Rattle.std.proofs.Common.{refl, ◌≡◌, List, Option, Some, [], ◌∷◌, ap, codes, option_map}
+use Rattle.std.proofs.Common.{refl, ◌≡◌, List, Option, Some, [], ◌∷◌, codes, option_map}
 use Rattle.std.specs.Prelude.{option_and_then}
-use Rattle.clap.specs.Words.{App, Text, fault_of, first_of, one_of, subcommand_of}
+use Rattle.clap.specs.Words.{Text, fault_of, first_of, one_of, subcommand_of}
 use Rattle.clap.specs.declared.builder.value_parser.ValueParser.{ValueParser}
 use Rattle.clap.specs.declared.error.kind.ErrorKind.{ErrorKind}
 use Rattle.clap.specs.declared.error.kind.ErrorKind.TheVariants.{DisplayHelp, InvalidSubcommand, MissingSubcommand}
@@ -30,6 +30,14 @@ module _ (workloads : ValueParser) where
   run_is_asked_for : named (codes "run" ∷ []) ≡ Some (codes "run")
   unfolding clap_on_literals
   run_is_asked_for = refl
+
+  draw_is_one : faults (codes "draw" ∷ []) ≡ []
+  unfolding clap_on_literals
+  draw_is_one = refl
+
+  draw_is_asked_for : named (codes "draw" ∷ []) ≡ Some (codes "draw")
+  unfolding clap_on_literals
+  draw_is_asked_for = refl
 
   random_is_one : faults (codes "random" ∷ codes "--seed" ∷ codes "18446744073709551615" ∷ []) ≡ []
   unfolding clap_on_literals

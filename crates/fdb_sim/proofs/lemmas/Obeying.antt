@@ -12,7 +12,7 @@ use Rattle.fdb_simulate.specs.Reports.{SimulationPrints}
 use Rattle.fdb_sim.specs.Commands.{EndsBy, LackMemory, Obeys}
 use Rattle.fdb_sim.specs.command.Tasks.{Asks}
 use Rattle.fdb_sim.specs.declared.command.task.Schedule.{Schedule}
-use Rattle.fdb_sim.specs.declared.command.task.Task.TheVariants.{Random, Run, Simulate, Threads}
+use Rattle.fdb_sim.specs.declared.command.task.Task.TheVariants.{Draw, Random, Run, Simulate, Threads}
 
 module _ (words : List Text) (input old new err_old err_new : Option (List ℕ)) (status : ℕ) where
   pub plays : Asks words (Ok Run) → Printed old new (λ printed. Knows input (λ lines. Plays 0 lines printed status))
@@ -41,10 +41,15 @@ module _ (words : List Text) (input old new err_old err_new : Option (List ℕ))
   simulates asked (inr (workloads, named, (faults, is))) printed =
       inl (workloads, named, inr (inr (inr (inl (faults, asked, is, printed)))))
 
+  pub draws_run : Asks words (Ok Draw) → Obeys words input old new err_old err_new status
+  draws_run (inl none) = absurd none
+  draws_run (inr (workloads, named, (faults, asked))) =
+      inl (workloads, named, inr (inr (inr (inr (inl (faults, asked))))))
+
   pub ends : (fault : Error) → Asks words (Err fault) → EndsBy (kind_of fault) old new status
       → (kind_of fault ≡ OutOfMemory → LackMemory old new err_old err_new status)
       → Obeys words input old new err_old err_new status
   ends fault (inl none) ended lacks = inr (lacks none)
   ends fault (inr (workloads, named, (inl none, given))) ended lacks = inr (lacks none)
   ends fault (inr (workloads, named, (inr among, given))) ended lacks =
-      inl (workloads, named, inr (inr (inr (inr (kind_of fault, among, ended)))))
+      inl (workloads, named, inr (inr (inr (inr (inr (kind_of fault, among, ended))))))

@@ -27,6 +27,10 @@ up_to most = Signed (pos 1) (pos most)
 abbrev pub run_command : App
 run_command = new_app (codes "run")
 
+-- `draw` has none, either
+abbrev pub draw_command : App
+draw_command = new_app (codes "draw")
+
 -- which steps are drawn, and how many
 abbrev pub with_schedule : App → App
 with_schedule app = with_rule (with_rule app
@@ -78,8 +82,8 @@ named =
 
 abbrev pub commands : ValueParser → App
 commands workloads =
-    with_subcommand (with_subcommand (with_subcommand (with_subcommand named run_command.top) random_command.top)
-    (threads_command workloads).top) simulate_command.top
+    with_subcommand (with_subcommand (with_subcommand (with_subcommand (with_subcommand named run_command.top)
+    draw_command.top) random_command.top) (threads_command workloads).top) simulate_command.top
 
 abbrev pub AreCommands : App → Type 0
 AreCommands app = (workloads : ValueParser) × IsWorkloadParser workloads × (app ≡ commands workloads)

@@ -14,7 +14,7 @@ use Rattle.fdb_load.specs.declared.workload.Workload.TheVariants.{Counters, Ring
 use Rattle.fdb_simulate.specs.declared.simulation.Simulation.{Simulation}
 use Rattle.fdb_sim.specs.command.Options.{IsWorkloadParser, commands}
 use Rattle.fdb_sim.specs.declared.command.task.Task.{Task}
-use Rattle.fdb_sim.specs.declared.command.task.Task.TheVariants.{Random, Run, Simulate, Threads}
+use Rattle.fdb_sim.specs.declared.command.task.Task.TheVariants.{Draw, Random, Run, Simulate, Threads}
 use Rattle.fdb_sim.specs.declared.command.task.Schedule.{Schedule}
 
 -- n is the number of so many bits that the option has, where that is one
@@ -55,10 +55,12 @@ pub record HasSimulation (rows : List Row) (asked : Simulation) : Type 0 where
   pub resolvers : ReadsNumber (codes "resolvers") rows asked.resolvers
   pub proxies : ReadsNumber (codes "proxies") rows asked.proxies
 
--- the command that was found, with its options, asks for this; any other than the three that are named is `run`
+-- the command that was found, with its options, asks for this; any other than the four that are named is `run`
 abbrev pub IsAsked : Option (Text × List Row) → Task → Type 0
 IsAsked found Run = (rows : List Row) → (found ≢ Some (codes "random", rows))
     × (found ≢ Some (codes "threads", rows)) × (found ≢ Some (codes "simulate", rows))
+    × (found ≢ Some (codes "draw", rows))
+IsAsked found Draw = (rows : List Row) × (found ≡ Some (codes "draw", rows))
 IsAsked found (Random schedule) =
     (rows : List Row) × (found ≡ Some (codes "random", rows)) × HasSchedule rows schedule
 IsAsked found (Threads load) = (rows : List Row) × (found ≡ Some (codes "threads", rows)) × HasLoad rows load

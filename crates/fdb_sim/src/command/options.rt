@@ -2,7 +2,8 @@
 ghost use Rattle.std.specs.Prelude.{◌≡◌, IfOk, IfErr, codes, true, false};
 ghost use Rattle.clap.specs.Words.{app_of, kind_of, rule_of, with_rule, with_subcommand};
 ghost use Rattle.fdb_sim.specs.command.Options.{AreCommands, IsWorkloadParser, flag, option};
-ghost use Rattle.fdb_sim.specs.command.Options.{random_command, run_command, simulate_command, threads_command};
+ghost use Rattle.fdb_sim.specs.command.Options.{draw_command, random_command, run_command, simulate_command};
+ghost use Rattle.fdb_sim.specs.command.Options.{threads_command};
 ghost use Rattle.fdb_sim.specs.command.Options.{with_roles, with_schedule, with_sizes};
 
 use clap::builder::ValueParser;
@@ -90,6 +91,7 @@ pub(super) fn commands<'a>(alloc: Global) -> Result<Command<'a>, Error>
         .no_binary_name(true)
         .subcommand_required(true);
     let command = with_command(command, run_command(alloc))?;
+    let command = with_command(command, draw_command(alloc))?;
     let command = with_command(command, random_command(alloc)?)?;
     let command = with_command(command, threads_command(alloc)?)?;
     with_command(command, simulate_command(alloc)?)
@@ -102,6 +104,14 @@ fn run_command<'a>(alloc: Global) -> Command<'a>
         .about("Runs the script on standard input")
         .override_usage("fdb_sim run")
         .after_help(RUN_HELP)
+}
+
+fn draw_command<'a>(alloc: Global) -> Command<'a>
+    ensures { app_of result ≡ draw_command }
+{
+    Command::new(alloc, "draw")
+        .about("Draws the run of the script on standard input, as SVG")
+        .override_usage("fdb_sim draw")
 }
 
 fn random_command<'a>(alloc: Global) -> Result<Command<'a>, Error>

@@ -27,6 +27,8 @@ pub(crate) struct Schedule {
 pub(crate) enum Task {
     /// To run the script on standard input.
     Run,
+    /// To draw the run of the script on standard input.
+    Draw,
     /// To run steps that are drawn from a seed.
     Random(Schedule),
     /// To run clients in threads.
@@ -49,6 +51,7 @@ fn task_of(matches: &ArgMatches<'_>) -> Task
     ensures { IsAsked (subcommand_rows_of matches.now) result }
 {
     match matches.subcommand() {
+        Some(("draw", _)) => Task::Draw,
         Some(("random", below)) => Task::Random(schedule_of(below)),
         Some(("threads", below)) => Task::Threads(load_of(below)),
         Some(("simulate", below)) => Task::Simulate(simulation_of(below)),

@@ -1,10 +1,14 @@
 // Readers and writers over memory, of which one call fails.
+use crate::command::run_words;
 use fdb_play::{Sink, Source, run_script};
 use std::alloc::Global;
 use std::fmt::Display;
 use std::io;
 use std::io::{ErrorKind, Write};
+use std::sync::Wait;
 use std::test::Fail;
+use std::thread::Threads;
+use std::time::Clock;
 
 const SCRIPT: &[u8] = b"config proxies 1 logs 1 resolvers - shards - book 100\n\
     ask 0 0\ngrant 0\nget 0 a\n# read-only\nsubmit 0 0\nget 0 %ff\n";
@@ -77,19 +81,46 @@ struct Ended {
     writes: u64,
 }
 
-fn run_choppy(alloc: Global, bad_read: u64, error: io::Error, bad_write: u64) -> Ended {
-    let mut reader = ChoppyReader {
+fn reader_of(bad_call: u64, error: io::Error) -> ChoppyReader<'static> {
+    ChoppyReader {
         rest: SCRIPT,
         calls: 0,
-        bad_call: bad_read,
+        bad_call,
         error,
-    };
-    let mut writer = ChoppyWriter {
+    }
+}
+
+fn writer_of(alloc: Global, bad_call: u64) -> ChoppyWriter {
+    ChoppyWriter {
         written: Vec::new(alloc),
         calls: 0,
-        bad_call: bad_write,
-    };
+        bad_call,
+    }
+}
+
+fn run_choppy(alloc: Global, bad_read: u64, error: io::Error, bad_write: u64) -> Ended {
+    let mut reader = reader_of(bad_read, error);
+    let mut writer = writer_of(alloc, bad_write);
     let outcome = run_script(alloc, &mut reader, &mut writer);
+    Ended {
+        outcome,
+        written: writer.written,
+        reads: reader.calls,
+        writes: writer.calls,
+    }
+}
+
+fn draw_choppy<R: Threads + Wait + Clock + Copy + Send + Sync + 'static>(
+    rt: &R,
+    alloc: Global,
+    bad_read: u64,
+    error: io::Error,
+    bad_write: u64,
+) -> Ended {
+    let mut reader = reader_of(bad_read, error);
+    let mut writer = writer_of(alloc, bad_write);
+    let mut err: Vec<u8> = Vec::new(alloc);
+    let outcome = run_words(rt, alloc, &["draw"], &mut reader, &mut writer, &mut err);
     Ended {
         outcome,
         written: writer.written,
@@ -168,4 +199,33 @@ fn an_interrupted_read_is_made_again(rt: HostRuntime) -> Result<(), Fail> {
         );
     }
     Ok(())
+}
+
+// Of a script that can't be read whole nothing is drawn. An interrupted read is made again.
+#[test]
+fn each_read_for_a_picture_in_turn_fails(rt: HostRuntime) {
+    let unused = io::Error::from_raw_os_error(NUMBER);
+    let whole = draw_choppy(&rt, rt.alloc(), u64::MAX, unused, u64::MAX);
+    assert!(rt; whole.outcome.is_ok());
+    assert!(rt; whole.reads > 15);
+    for bad_read in 0..whole.reads {
+        let error = io::Error::from_raw_os_error(NUMBER);
+        let ended = draw_choppy(&rt, rt.alloc(), bad_read, error, u64::MAX);
+        assert!(rt; failed_within(&ended, b""), "read {bad_read}");
+        let error = io::Error::from(ErrorKind::Interrupted);
+        let ended = draw_choppy(&rt, rt.alloc(), bad_read, error, u64::MAX);
+        assert!(rt;
+            ended.written.as_slice() == whole.written.as_slice(),
+            "read {bad_read}"
+        );
+    }
+}
+
+#[test]
+fn a_write_of_a_picture_fails(rt: HostRuntime) {
+    for bad_write in 0..4 {
+        let unused = io::Error::from_raw_os_error(NUMBER);
+        let ended = draw_choppy(&rt, rt.alloc(), u64::MAX, unused, bad_write);
+        assert!(rt; failed_within(&ended, b"<svg xmlns="), "write {bad_write}");
+    }
 }

@@ -9,13 +9,14 @@ use std::time::Clock;
 
 /// What words led to.
 #[derive(Drop)]
-struct Ended {
-    outcome: Result<u8, io::Error>,
-    out: Vec<u8>,
-    err: Vec<u8>,
+pub struct Ended {
+    pub outcome: Result<u8, io::Error>,
+    pub out: Vec<u8>,
+    pub err: Vec<u8>,
 }
 
-fn run_on<R: Threads + Wait + Clock + Copy + Send + Sync + 'static>(
+/// Runs the words on the script.
+pub fn run_on<R: Threads + Wait + Clock + Copy + Send + Sync + 'static>(
     rt: &R,
     alloc: Global,
     words: &[&str],
@@ -28,14 +29,16 @@ fn run_on<R: Threads + Wait + Clock + Copy + Send + Sync + 'static>(
     Ended { outcome, out, err }
 }
 
-fn has_status(ended: &Ended, status: u8) -> bool {
+/// The words ended with the status.
+pub fn has_status(ended: &Ended, status: u8) -> bool {
     match &ended.outcome {
         Ok(found) => *found == status,
         Err(_) => false,
     }
 }
 
-fn has_text(text: &[u8], part: &[u8]) -> bool {
+/// The part stands in the text.
+pub fn has_text(text: &[u8], part: &[u8]) -> bool {
     text.windows(part.len().max(1)).any(|window| window == part)
 }
 
@@ -52,6 +55,7 @@ const BAD_WORDS: &[&[&str]] = &[
     &["walk", "a"],
     &["run", "a"],
     &["run", "--seed"],
+    &["draw", "a"],
     &["random", "1"],
     &["random", "--seed", "18446744073709551616"],
     &["random", "--steps", "0"],
@@ -102,6 +106,8 @@ fn version(rt: HostRuntime) {
 const HELP: &[(&str, &[u8])] = &[
     ("run", b"write S set K X"),
     ("run", b"Usage: fdb_sim run\n"),
+    ("draw", b"as SVG"),
+    ("draw", b"Usage: fdb_sim draw\n"),
     ("random", b"acknowledged"),
     ("random", b"--seed"),
     ("threads", b"32 accounts with 1,000 each"),

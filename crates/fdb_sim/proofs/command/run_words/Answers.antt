@@ -3,7 +3,7 @@ use Rattle.std.specs.Prelude.{IfOk}
 use Rattle.std.proofs.lemmas.Result.{IfOk-weaker}
 use Rattle.fdb_sim.specs.command.Tasks.{Asks}
 use Rattle.fdb_sim.specs.declared.command.task.Task.{Task}
-use Rattle.fdb_sim.proofs.lemmas.Obeying.{draws, ends, plays, runs, simulates}
+use Rattle.fdb_sim.proofs.lemmas.Obeying.{draws, draws_run, ends, plays, runs, simulates}
 use Rattle.fdb_sim.proofs.command.run_words.Goals as goal
 
 -- what follows from two things that hold of an answer holds of it
@@ -11,6 +11,11 @@ both : {T E : Type 0} (r : Result T E) (P Q R : T → Type 0) → ((x : T) → P
     → IfOk r R
 both (Ok x) P Q R follows p q = follows x p q
 both (Err e) P Q R follows p q = tt
+
+-- what holds of each value holds of an answer
+always : {T E : Type 0} (r : Result T E) (P : T → Type 0) → ((x : T) → P x) → IfOk r P
+always (Ok x) P follows = follows x
+always (Err e) P follows = tt
 
 pub returns-in-Ok-Run-clause-obeys : goal.returns-in-Ok-Run-clause-obeys
 returns-in-Ok-Run-clause-obeys g c =
@@ -22,15 +27,26 @@ returns-in-Ok-Run-clause-obeys g c =
     (g.O.Sink.contents c.run_script_with_hints.new.writer) (g.E.Sink.contents c.args.err.now)
     (g.E.Sink.contents c.run_script_with_hints.new.hints) status asked played) c.run_script_with_hints.ensures.printed
 
+pub returns-in-Ok-Draw-clause-obeys : goal.returns-in-Ok-Draw-clause-obeys
+returns-in-Ok-Draw-clause-obeys g c =
+    let given = c.in-Ok-Draw in
+    let asked = subst (λ (task : Task). Asks (map (λ word. word.now) c.args.words.now) (Ok task)) given.field-0-is
+    given.ensures in
+    always c.draw_run.result _ (λ status. draws_run (map (λ word. word.now) c.args.words.now)
+    (g.I.Source.remaining c.args.reader.now) (g.O.Sink.contents c.args.out.now)
+    (g.O.Sink.contents c.draw_run.new.out) (g.E.Sink.contents c.args.err.now)
+    (g.E.Sink.contents c.draw_run.new.err) status asked)
+
 pub returns-in-Ok-Random-clause-obeys : goal.returns-in-Ok-Random-clause-obeys
 returns-in-Ok-Random-clause-obeys g c =
     let given = c.in-Ok-Random in
     let asked = subst (λ (task : Task). Asks (map (λ word. word.now) c.args.words.now) (Ok task)) given.field-0-is
     given.ensures in
-    IfOk-weaker c.draw.result _ _ (λ status printed. draws (map (λ word. word.now) c.args.words.now)
-    (g.I.Source.remaining c.args.reader.now) (g.O.Sink.contents c.args.out.now) (g.O.Sink.contents c.draw.new.out)
-    (g.E.Sink.contents c.args.err.now) (g.E.Sink.contents c.draw.new.err) status given.schedule asked printed)
-    c.draw.ensures.printed
+    IfOk-weaker c.run_drawn.result _ _ (λ status printed. draws (map (λ word. word.now) c.args.words.now)
+    (g.I.Source.remaining c.args.reader.now) (g.O.Sink.contents c.args.out.now)
+    (g.O.Sink.contents c.run_drawn.new.out) (g.E.Sink.contents c.args.err.now)
+    (g.E.Sink.contents c.run_drawn.new.err) status given.schedule asked printed)
+    c.run_drawn.ensures.printed
 
 pub returns-in-Ok-Threads-clause-obeys : goal.returns-in-Ok-Threads-clause-obeys
 returns-in-Ok-Threads-clause-obeys g c =
