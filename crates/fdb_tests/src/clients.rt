@@ -1,6 +1,7 @@
 // The client's side of transactions: steps with their known answers.
 mod cut_snapshot;
 mod marks;
+mod paging;
 mod programs;
 mod steps;
 

@@ -1,0 +1,118 @@
+// How many pages a read of a range asks for, of a map that counts them.
+use super::begin;
+use crate::asserting::same;
+use bytes::Bytes;
+use fdb_client::{Page, PlainSnapshot, Snapshot};
+use fdb_keys::{Key, KeyRange, Refusal};
+use fdb_making::{apply, coded, made_of};
+use fdb_mutations::{Mutation, PlainMap};
+use std::alloc::Global;
+use std::sync::atomic::{AtomicU32, Ordering};
+
+// A plain map, read at a version, whose pages are counted.
+#[derive(Clone, Copy)]
+struct CountedSnapshot<'a> {
+    plain: PlainSnapshot<'a>,
+    pages: &'a AtomicU32,
+}
+
+impl<'a> Snapshot for CountedSnapshot<'a> {
+    ghost use Rattle.std.specs.Prelude.{None, refl};
+
+    ghost at = { λ snapshot. snapshot.plain.version };
+
+    ghost map = { λ snapshot. snapshot.plain.map.now };
+
+    ghost key_fault = { λ snapshot key. None };
+
+    ghost range_fault = { λ snapshot range. None };
+
+    ghost serves_parts = { λ snapshot part range inside served. refl };
+
+    fn version(&self) -> u64 {
+        self.plain.version
+    }
+
+    fn get(&self, key: &Key) -> Result<Option<Bytes>, Refusal> {
+        self.plain.get(key)
+    }
+
+    fn page(&self, range: &KeyRange, limit: u32, reverse: bool) -> Result<Page, Refusal> {
+        self.pages.fetch_add(1, Ordering::SeqCst);
+        self.plain.page(range, limit, reverse)
+    }
+}
+
+// The map with a pair for each of the keys 1 to 100, of one byte each.
+fn hundred_pairs(alloc: Global) -> Result<PlainMap, Refusal> {
+    let mut map = PlainMap::new(alloc);
+    for byte in 1..=100u8 {
+        apply(&mut map, Mutation::set(alloc, &[byte], b"x"))?;
+    }
+    Ok(map)
+}
+
+// What a transaction clears, the direction in which it reads one pair, and how many pages it asks for: of one pair, and
+// then each of twice as many as the page before, until one has a pair that isn't cleared.
+#[derive(Clone, Copy)]
+struct Row {
+    cleared: (&'static [u8], &'static [u8]),
+    reverse: bool,
+    pages: u32,
+}
+
+const ROWS: &[Row] = &[
+    Row {
+        cleared: (&[50], &[51]),
+        reverse: false,
+        pages: 1,
+    },
+    Row {
+        cleared: (&[1], &[2]),
+        reverse: false,
+        pages: 2,
+    },
+    Row {
+        cleared: (&[1], &[4]),
+        reverse: false,
+        pages: 3,
+    },
+    Row {
+        cleared: (&[1], &[100]),
+        reverse: false,
+        pages: 7,
+    },
+    Row {
+        cleared: (&[2], &[101]),
+        reverse: true,
+        pages: 7,
+    },
+];
+
+// How many pages the read asks for, and how many pairs it is given.
+fn read_one(alloc: Global, map: &PlainMap, row: Row) -> Result<(u32, usize), Refusal> {
+    let all = KeyRange::new(alloc, &[1], &[200])?;
+    let pages = AtomicU32::new(0);
+    let mut txn = begin(alloc);
+    let cleared = Mutation::clear_range(alloc, row.cleared.0, row.cleared.1)?;
+    txn.write(cleared)?;
+    let plain = PlainSnapshot {
+        version: txn.read_version(),
+        map,
+    };
+    let counted = CountedSnapshot {
+        plain,
+        pages: &pages,
+    };
+    let pairs = txn.get_range(&counted, &all, 1, row.reverse, false)?;
+    Ok((pages.load(Ordering::SeqCst), pairs.len()))
+}
+
+#[test]
+fn reads_behind_own_clears_ask_for_few_pages(rt: HostRuntime) {
+    let alloc = rt.alloc();
+    for row in ROWS {
+        let found = made_of(hundred_pairs(alloc), |map| read_one(alloc, map, *row));
+        same(&rt, coded(found), Ok((row.pages, 1)));
+    }
+}
