@@ -61,8 +61,8 @@ fn main(rt: HostRuntime) -> ExitCode {
     }
 }
 
-// Measures what the process's words say, or prints what can be measured. A database's threads are started and waited for
-// by the second handle.
+// Measures what the process's words say, or prints what can be measured. A database's threads are started and waited
+// for by the second handle.
 fn run<R: Threads + Wait + Clock + Copy + Send + Sync + 'static>(
     rt: &HostRuntime,
     threads: &R,

@@ -46,8 +46,8 @@ pub(crate) fn operations_of(word: &str) -> Result<u32, Fault> {
     number_up_to(word, 1_000_000)
 }
 
-/// How many transactions of a kind a running database commits by the word, if it is at most 500,000: its book has room for
-/// those of two kinds.
+/// How many transactions of a kind a running database commits by the word, if it is at most 500,000: its book has room
+/// for those of two kinds.
 pub(crate) fn transactions_of(word: &str) -> Result<u32, Fault> {
     number_up_to(word, 500_000)
 }

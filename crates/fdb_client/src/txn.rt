@@ -97,9 +97,9 @@ impl Txn {
     /// refusals come first.
     ///
     /// It takes the snapshot's pages, and goes once over these and the own writes of what it scans: for n pairs and own
-    /// writes there it takes O(n log m) comparisons of keys, where the transaction holds m keys and ranges. Each page but
-    /// the first is asked for twice as many pairs as the one before, so that where own writes hide n pairs it asks for
-    /// O(log n) pages. Where a `Stamped` was written, it goes over those own writes once more.
+    /// writes there it takes O(n log m) comparisons of keys, where the transaction holds m keys and ranges. Each page
+    /// but the first is asked for twice as many pairs as the one before, so that where own writes hide n pairs it asks
+    /// for O(log n) pages. Where a `Stamped` was written, it goes over those own writes once more.
     pub fn get_range<S: Snapshot>(
         &mut self,
         snapshot: &S,

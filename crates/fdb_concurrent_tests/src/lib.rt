@@ -1,5 +1,5 @@
-//! Tests of a running database whose sessions, roles and moves are in each other's way, by its public calls alone. It is
-//! no part of the product.
+//! Tests of a running database whose sessions, roles and moves are in each other's way, by its public calls alone. It
+//! is no part of the product.
 #![tactic(auto)]
 
 #[cfg(test)]

@@ -27,7 +27,8 @@ impl Model for KeyedRange {
 }
 
 impl KeyedRange {
-    /// The bounds of the range, whose texts are shared.
+    /// The bounds of the range, whose texts are shared. It fails only where they can't be shared once more, for want of
+    /// memory. It takes O(1) time.
     pub fn new(range: &KeyRange) -> Result<Self, AllocError>
         ensures { IfOk result (λ keyed. keyed ≡ range.now) }
     {
@@ -38,14 +39,14 @@ impl KeyedRange {
         Ok(KeyedRange { begin, end })
     }
 
-    /// The first point of the range, if it has one.
+    /// The first point of the range, if it has one. It takes no memory, and O(1) time.
     pub fn begin(&self) -> &PointKey
         ensures { result.now ≡ self.now.begin }
     {
         &self.begin
     }
 
-    /// The point behind it. It doesn't come before the begin.
+    /// The point behind the range, which doesn't come before the begin. It takes no memory, and O(1) time.
     pub fn end(&self) -> &PointKey
         ensures value { result.now ≡ self.now.end }
         ensures order { point_lt self.now.end self.now.begin ≡ false }

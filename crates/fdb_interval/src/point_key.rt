@@ -17,8 +17,8 @@ use std::marker::Model;
 const HEAD: usize = 8;
 
 /// The text of a point beside its head, the number that its first bytes make. Keys that differ in their heads are
-/// compared by these, so that a map seldom reads their texts, which lie elsewhere; others are compared by their texts as
-/// well. The text is a legal bound, so that two points are the bounds of a range.
+/// compared by these, so that a map seldom reads their texts, which lie elsewhere; others are compared by their texts
+/// as well. The text is a legal bound, so that two points are the bounds of a range.
 #[derive(Drop)]
 pub struct PointKey {
     head: u64,
@@ -49,7 +49,8 @@ impl PointKey {
         }
     }
 
-    /// The key of a map for a legal bound. Its text is shared, and no byte of it is copied.
+    /// The key of a map for a legal bound. Its text is shared, and no byte of it is copied. It fails only where the
+    /// text can't be shared once more, for want of memory. It takes O(1) time.
     pub fn new(text: &Bytes) -> Result<Self, AllocError>
         requires { IsTrue (is_bound text.now) }
         ensures { IfOk result (λ key. key ≡ text.now) }
@@ -59,7 +60,7 @@ impl PointKey {
         Ok(PointKey { head, text })
     }
 
-    /// The same for a key.
+    /// The key of a map for a key, made and failing as `new` is. It takes O(1) time.
     pub fn at(key: &Key) -> Result<Self, AllocError>
         ensures value { IfOk result (λ point. point ≡ key.now) }
         ensures legal { IsTrue (is_key key.now) }
@@ -73,7 +74,7 @@ impl PointKey {
         self.text.as_slice()
     }
 
-    /// The text, of which a clone copies no byte.
+    /// The text, of which a clone copies no byte. It takes no memory, and O(1) time.
     pub fn text(&self) -> &Bytes
         ensures value { result.now ≡ self.now }
         ensures legal { IsTrue (is_bound self.now) }
@@ -152,7 +153,8 @@ impl Ord for PointKey {
         if other.head < self.head {
             return Ordering::Greater;
         }
-        // Both heads are the same, and have all of texts as short as they are: one goes on from the other one with zeros.
+        // Both heads are the same, and have all of texts as short as they are: one goes on from the other one with
+        // zeros.
         if self.text.len() <= HEAD && other.text.len() <= HEAD {
             return self.text.len().cmp(&other.text.len());
         }

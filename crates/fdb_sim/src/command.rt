@@ -30,10 +30,10 @@ const FAULT: u8 = 2;
 const HELPED: u8 = 0;
 
 /// Runs the command that the words give, which are those after the program's own name, and answers the
-/// status. `run` runs the script that the reader gives, `draw` draws that run, `random` runs steps that are drawn from a
-/// seed, `threads` clients of a database in threads, and `simulate` clients of such a database in one thread; each
-/// prints to `out`. How far `random` and `threads` are goes to `err` where it is asked for, and so does what a line of a
-/// script that is run may be meant for, where it is none, and what one that comes too early waits for.
+/// status. `run` runs the script that the reader gives, `draw` draws that run, `random` runs steps that are drawn from
+/// a seed, `threads` clients of a database in threads, and `simulate` clients of such a database in one thread; each
+/// prints to `out`. How far `random` and `threads` are goes to `err` where it is asked for, and so does what a line of
+/// a script that is run may be meant for, where it is none, and what one that comes too early waits for.
 ///
 /// Words that ask for help or for the version print it to `out`, with status 0. Others that give no command print what
 /// is wrong with them to `err`, with status 2 and nothing on `out`. Where memory runs out while they are read, or for a

@@ -1,7 +1,7 @@
 //! The simulator of the transaction system: `fdb_sim run` runs a script of steps, and prints what each step answers,
-//! `fdb_sim draw` draws that run, `fdb_sim random` runs steps that are drawn from a seed, `fdb_sim threads` clients of a
-//! database in threads, and `fdb_sim simulate` clients of such a database in one thread, in an order that is drawn from
-//! a seed.
+//! `fdb_sim draw` draws that run, `fdb_sim random` runs steps that are drawn from a seed, `fdb_sim threads` clients of
+//! a database in threads, and `fdb_sim simulate` clients of such a database in one thread, in an order that is drawn
+//! from a seed.
 #![tactic(auto)]
 
 ghost use Rattle.std.specs.Prelude.{◌≡◌, ◌≤◌, IfOk};

@@ -15,8 +15,8 @@ use fdb_mutations::{Mutation, Named};
 use std::alloc::{AllocError, Global};
 
 /// Applies what the messages, which rise after the version, change in the range. Refused only as `NoMemory`, and then
-/// nothing is said of the values. Each mutation of a key takes O(log n) comparisons for n keys and versions, and one that
-/// clears a range as many and O(log n) for each key that it clears.
+/// nothing is said of the values. Each mutation of a key takes O(log n) comparisons for n keys and versions, and one
+/// that clears a range as many and O(log n) for each key that it clears.
 pub(crate) fn apply_messages(
     alloc: Global,
     map: &mut VersionMap,

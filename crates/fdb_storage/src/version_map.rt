@@ -17,9 +17,9 @@ use std::collections::BTreeMap;
 #[derive(Drop)]
 pub(crate) struct VersionMap {
     pub(crate) keys: BTreeMap<PointKey, VersionList>,
-    // The keys that have versions to drop. Each is there once, and not for each of its versions: at the version at which
-    // half of those that it had can go. So it is looked up once for several versions, and has at most about twice as many
-    // as are needed.
+    // The keys that have versions to drop. Each is there once, and not for each of its versions: at the version at
+    // which half of those that it had can go. So it is looked up once for several versions, and has at most about twice
+    // as many as are needed.
     due: DueKeys,
 }
 
@@ -105,8 +105,8 @@ impl VersionMap {
         count
     }
 
-    /// Applies a mutation of the key from the version on, in O(log n) comparisons for n keys and versions: a key that is
-    /// there is looked up once. Refused only as `NoMemory`.
+    /// Applies a mutation of the key from the version on, in O(log n) comparisons for n keys and versions: a key that
+    /// is there is looked up once. Refused only as `NoMemory`.
     pub(crate) fn change(
         &mut self,
         alloc: Global,
@@ -261,8 +261,8 @@ fn put_in(
     Ok(())
 }
 
-// Drops the versions that no version from the floor on shows of the key, whose versions these are and which was taken off
-// those that are due. The key comes back if none is left, and is noted anew if several are.
+// Drops the versions that no version from the floor on shows of the key, whose versions these are and which was taken
+// off those that are due. The key comes back if none is left, and is noted anew if several are.
 fn trim_in(
     versions: &mut VersionList,
     due: &mut DueKeys,

@@ -4,10 +4,11 @@ ghost use Rattle.fdb_keys.specs.Points.{Point};
 ghost use Rattle.fdb_interval.specs.Versions.{version_at};
 
 use crate::asserting::same;
-use fdb_interval::LastCommit;
-use fdb_keys::{KeyRange, Refusal};
-use fdb_making::{both, made_of, set_of};
+use fdb_interval::{KeyedRange, LastCommit, PointKey};
+use fdb_keys::{Key, KeyRange, Refusal};
+use fdb_making::{both, coded, made_of, set_of};
 use std::alloc::Global;
+use std::cmp::Ordering;
 
 type Text = &'static [u8];
 
@@ -208,4 +209,49 @@ fn first_large(alloc: Global) -> Result<Option<u64>, Refusal> {
 #[test]
 fn breakpoints_of_expired_marks_go(rt: HostRuntime) {
     same(&rt, first_large(rt.alloc()), Ok(None));
+}
+
+// How the first bound of a range is ordered beside the second one, and this one beside the first, as keys of a map.
+fn order_of(alloc: Global, begin: Text, end: Text) -> Result<(Ordering, Ordering), Refusal> {
+    let range = KeyRange::new(alloc, begin, end)?;
+    let keyed = KeyedRange::new(&range)?;
+    let (begin, end) = (keyed.begin(), keyed.end());
+    Ok((begin.cmp(end), end.cmp(begin)))
+}
+
+// Bounds of which the first one comes before the second: by their first eight bytes, by what stands behind these, or
+// since the second one goes on from the first.
+const RISING: &[(Text, Text)] = &[
+    (b"", b"a"),
+    (b"a", b"b"),
+    (b"a", b"a\0"),
+    (b"a\0", b"a\0\0"),
+    (b"a", b"a\0\0\0\0\0\0\0\0"),
+    (b"abcdefg", b"abcdefgh"),
+    (b"abcdefgh", b"abcdefgh\0"),
+    (b"abcdefg\xff", b"abcdefh"),
+    (b"abcdefghi", b"abcdefghj"),
+];
+
+#[test]
+fn keys_of_maps_are_ordered_by_their_bytes(rt: HostRuntime) {
+    let alloc = rt.alloc();
+    for (begin, end) in RISING {
+        let found = coded(order_of(alloc, begin, end));
+        same(&rt, found, Ok((Ordering::Less, Ordering::Greater)));
+        let alike = coded(order_of(alloc, end, end));
+        same(&rt, alike, Ok((Ordering::Equal, Ordering::Equal)));
+    }
+}
+
+// Whether the key of a map has the text of the key that it is made of.
+fn keeps_its_text(key: &Key) -> Result<bool, Refusal> {
+    let point = PointKey::at(key)?;
+    Ok(point.text() == key.text())
+}
+
+#[test]
+fn keys_of_maps_keep_their_texts(rt: HostRuntime) {
+    let kept = made_of(Key::new(rt.alloc(), b"abcdefghij"), keeps_its_text);
+    same(&rt, coded(kept), Ok(true));
 }

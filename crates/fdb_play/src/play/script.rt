@@ -50,8 +50,8 @@ pub fn run_script<R: Source, W: Sink>(
     run_script_with_hints(alloc, reader, writer, &mut NoHints)
 }
 
-/// The same, and tells on `hints` what a line is like where one is none of the grammar, and what a line waits for that is
-/// refused as `NotYet`. Whether that can be told changes nothing, and beside what `hints` takes it takes no memory.
+/// The same, and tells on `hints` what a line is like where one is none of the grammar, and what a line waits for that
+/// is refused as `NotYet`. Whether that can be told changes nothing, and beside what `hints` takes it takes no memory.
 pub fn run_script_with_hints<R: Source, W: Sink, H: Sink>(
     alloc: Global,
     reader: &mut R,
@@ -256,8 +256,8 @@ fn is_silent(line: &[u8]) -> bool
     }
 }
 
-// Takes the step or the steps that the current line gives, if any, and appends what the line prints to the text. What it
-// waits for is told on `hints`.
+// Takes the step or the steps that the current line gives, if any, and appends what the line prints to the text. What
+// it waits for is told on `hints`.
 fn take_line<R: Source + Drop, H: Sink>(
     alloc: Global,
     lines: &Lines<R>,

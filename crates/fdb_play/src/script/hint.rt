@@ -138,8 +138,8 @@ pub fn print_config_hint<E: Sink>(number: u64, hints: &mut E) -> Result<(), io::
     }
 }
 
-// What a line of the kind waits for that is refused as `NotYet`, up to the number: a step of this kind, or a drive where
-// there is none. A drive's decision and what comes after its last acknowledgement never wait.
+// What a line of the kind waits for that is refused as `NotYet`, up to the number: a step of this kind, or a drive
+// where there is none. A drive's decision and what comes after its last acknowledgement never wait.
 fn awaited(kind: Option<Kind>) -> &'static str {
     match kind {
         Some(Kind::Resolve) => "until the resolver has taken the entry of version",
@@ -154,8 +154,8 @@ fn awaited(kind: Option<Kind>) -> &'static str {
 }
 
 /// Tells on `hints` what the line of this number waits for, whose outcome it is, where that is the refusal `NotYet`; of
-/// any other outcome nothing. The line gave a step of the kind, or drove a batch where there is none. It takes O(1) time,
-/// and no memory.
+/// any other outcome nothing. The line gave a step of the kind, or drove a batch where there is none. It takes O(1)
+/// time, and no memory.
 pub fn print_wait_hint<E: Sink>(
     number: u64,
     kind: Option<Kind>,

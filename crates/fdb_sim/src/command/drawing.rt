@@ -10,8 +10,8 @@ use std::alloc::Global;
 use std::io;
 use std::io::ErrorKind;
 
-/// Reads the script whole, plays it, and prints the picture of its run. Answers the status that the run ends with. Where
-/// memory runs out it tells that on `err`, prints nothing else, and answers the status of that.
+/// Reads the script whole, plays it, and prints the picture of its run. Answers the status that the run ends with.
+/// Where memory runs out it tells that on `err`, prints nothing else, and answers the status of that.
 pub(super) fn draw_run<I: Source, O: Sink, E: Sink>(
     alloc: Global,
     reader: &mut I,

@@ -20,7 +20,8 @@ pub returns-then-len-le-HEAD-2 : goal.returns-then-len-le-HEAD-2
 returns-then-len-le-HEAD-2 c =
     let own = c.len-then-len-le-HEAD-2.ensures.value in
     let others = c.len-then-len-le-HEAD-2-2.ensures.value in
-    let heads : c.self.inside.head ≡ c.other.inside.head = omega (arith, c.if-self-other.false, c.if-other-self.false) in
+    let heads : c.self.inside.head ≡ c.other.inside.head =
+    omega (arith, c.if-self-other.false, c.if-other-self.false) in
     c.cmp.ensures
     ∙ (λ i. nat_cmp (own i) (others i))
     ∙ sym (same-by-head c.self.inside.head c.other.inside.head c.self.inside.text c.other.inside.text

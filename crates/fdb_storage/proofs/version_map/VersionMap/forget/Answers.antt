@@ -6,6 +6,7 @@ loop-count-init c = forgotten-none c.args.floor c.args.self.now.keys.entries
 
 pub loop-count-preserved : goal.loop-count-preserved
 loop-count-preserved c =
-    forgotten-then c.args.floor c.args.self.now.keys.entries c.loop-count.self.keys.entries c.trim_all.new.self.keys.entries
+    forgotten-then c.args.floor c.args.self.now.keys.entries c.loop-count.self.keys.entries
+    c.trim_all.new.self.keys.entries
     c.loop-count.invariant
     c.trim_all.ensures
