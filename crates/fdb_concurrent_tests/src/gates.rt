@@ -6,7 +6,7 @@ use fdb_book::Blank;
 use fdb_hosts::{Done, Host, Named, byte_of, put, two_sessions, wait_for};
 use fdb_keys::Refusal;
 use fdb_making::{coded, count_config, keys_of};
-use fdb_runtime::{ClusterName, Config, Database, Gate, Role, Session};
+use fdb_runtime::{ClusterName, Config, Database, Gate, NoGate, Role, Session};
 use fdb_txn::Spot;
 use std::alloc::Global;
 use std::marker::Brand;
@@ -166,6 +166,8 @@ fn cross<B: Named, R: Host>(rt: &R, alloc: Global, blank: Blank, config: &Config
     let told = commit_crossed::<B, R>(rt, alloc, blank, config, &gate)?;
     same(rt, told, (Ok([(0, 100), (1, 200)]), true));
     same(rt, gate.missed.load(Ordering::SeqCst), false);
+    // Who says nothing of that may hold a thread back. What is for use never does.
+    same(rt, (gate.may_wait(), NoGate.may_wait()), (true, false));
     Ok(())
 }
 

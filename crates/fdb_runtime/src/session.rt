@@ -177,19 +177,17 @@ impl<B: DatabaseName> Session<B> {
 
     // The same, refused for whatever reason the proxy gives.
     fn ask_proxy<R: Wait>(&self, rt: &R) -> Result<GrantMessage<B>, Refusal> {
-        let inboxes = self.shared.begins();
-        if inboxes.is_empty() {
+        let proxies = self.shared.begins();
+        if proxies.is_empty() {
             return Err(Refusal::Failed);
         }
-        let inbox = &inboxes[self.number as usize % inboxes.len()];
+        let proxy = &proxies[self.number as usize % proxies.len()];
         let request = BeginRequest {
             session: self.number,
             mark: self.client.mark(),
             reply: self.slots.grants()?,
         };
-        if let Err(refused) = inbox.put(rt, request) {
-            return Err(Refusal::from(refused));
-        }
+        proxy.ask(rt, &*self.shared, request)?;
         match self.slots.next_grant(rt) {
             Some(GrantReply::Granted(granted)) => Ok(granted),
             Some(GrantReply::Refused(why)) => Err(why),
@@ -446,6 +444,7 @@ fn ask_commit<B: DatabaseName, R: Wait>(
     if let Err(refused) = inbox.put(rt, request) {
         return CommitReply::Refused(Refusal::from(refused));
     }
+    inbox.wake();
     slots
         .next_outcome(rt)
         .unwrap_or(CommitReply::Refused(Refusal::CommitUnknownResult))

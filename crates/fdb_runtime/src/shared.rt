@@ -5,18 +5,21 @@ ghost use Rattle.fdb_proxy.specs.Configs.{config_fault};
 ghost use Rattle.fdb_runtime.specs.Databases.{AnswersMove, is_bad_move};
 ghost use Rattle.fdb_sequencer.specs.Sequencer.{set_window_fault};
 
-use crate::threads::request::{BeginRequest, CommitRequest};
+use crate::threads::request::CommitRequest;
 use fdb_book::Book;
 use fdb_keys::{Key, KeyRange, Refusal, is_before};
 use fdb_proxy::Config;
 use fdb_sections::{
-    BatchMessage, DatabaseName, GrantMessage, Issued, LogAt, LoggedFront, Reported, SequencerAt,
-    ShardAt, both,
+    BatchMessage, DatabaseName, GrantMessage, Issued, LogAt, LoggedFront, Reported, ResolverAt,
+    SequencerAt, ShardAt, both,
 };
 use fdb_storage::ShardMap;
 use fdb_txn::Move;
 use inbox::SharedInbox;
 use log::SharedLog;
+use read_version_proxy::SharedReadVersionProxy;
+use resolver::SharedResolver;
+use resolver::role::ResolverRole;
 use shard::SharedShard;
 use std::alloc::Global;
 use std::sync::{Mutex, Wait};
@@ -24,13 +27,16 @@ use waiting::take_lock;
 
 pub(crate) mod inbox;
 pub(crate) mod log;
+pub(crate) mod read_version_proxy;
+pub(crate) mod resolver;
 pub(crate) mod shard;
 pub(crate) mod slot;
 pub(crate) mod snapshot;
 pub(crate) mod waiting;
 
 /// What all threads of a database and its sessions share. Each lock in it is taken with no other one held, but for
-/// those of shards by who closes the database: they are taken in the order of the shards.
+/// those of shards by who closes the database, which are taken in the order of the shards, and for what who has a
+/// read-version proxy takes, one at a time: its inbox, the sequencer and the slots of who asked.
 #[derive(Drop)]
 pub(crate) struct Shared<B: DatabaseName> {
     pub(crate) alloc: Global,
@@ -43,7 +49,8 @@ pub(crate) struct Shared<B: DatabaseName> {
     logs: Vec<SharedLog<B>>,
     shards: Vec<SharedShard<B>>,
     commits: Vec<SharedInbox<CommitRequest<B>>>,
-    begins: Vec<SharedInbox<BeginRequest<B>>>,
+    begins: Vec<SharedReadVersionProxy<B>>,
+    resolvers: Vec<SharedResolver<B>>,
     ghost limited: { limit ≡ B.config.book },
 }
 
@@ -80,10 +87,11 @@ impl<B: DatabaseName> Shared<B> {
     {
         let sequencer = SequencerAt::new(alloc, &book, config.proxies, resolvers);
         let logs_and_shards = make_logs_and_shards(alloc, &book, config, tags);
-        let inboxes = make_all_inboxes(alloc, config.proxies);
-        let (sequencer, (logs_and_shards, (commits, begins))) = both(
+        let proxies = make_proxies(alloc, config.proxies);
+        let resolvers = make_resolvers(alloc, &book, resolvers, config.proxies);
+        let (sequencer, (logs_and_shards, ((commits, begins), resolvers))) = both(
             sequencer,
-            both(logs_and_shards, inboxes),
+            both(logs_and_shards, both(proxies, resolvers)),
         )?;
         let (shard_map, logs, shards) = logs_and_shards;
         Ok(Shared {
@@ -97,6 +105,7 @@ impl<B: DatabaseName> Shared<B> {
             shards,
             commits,
             begins,
+            resolvers,
         })
     }
 
@@ -210,9 +219,14 @@ impl<B: DatabaseName> Shared<B> {
         self.commits.as_slice()
     }
 
-    /// The inboxes of the read-version proxies.
-    pub(crate) fn begins(&self) -> &[SharedInbox<BeginRequest<B>>] {
+    /// The read-version proxies.
+    pub(crate) fn begins(&self) -> &[SharedReadVersionProxy<B>] {
         self.begins.as_slice()
+    }
+
+    /// The resolvers.
+    pub(crate) fn resolvers(&self) -> &[SharedResolver<B>] {
+        self.resolvers.as_slice()
     }
 }
 
@@ -307,31 +321,44 @@ fn make_shards<B: DatabaseName>(
     Ok(made)
 }
 
-// The inboxes of the proxies of both kinds. Refused only as `NoMemory`.
-fn make_all_inboxes<B: DatabaseName>(
+// The inboxes of the commit proxies, and the read-version proxies. Refused only as `NoMemory`.
+fn make_proxies<B: DatabaseName>(
     alloc: Global,
     proxies: u32,
 ) -> Result<
     (
         Vec<SharedInbox<CommitRequest<B>>>,
-        Vec<SharedInbox<BeginRequest<B>>>,
+        Vec<SharedReadVersionProxy<B>>,
     ),
     Refusal,
 >
     ensures { Answers result None (λ _. ⊤) }
 {
-    let commits = make_inboxes(alloc, proxies)?;
-    let begins = make_inboxes(alloc, proxies)?;
+    let mut commits = Vec::with_capacity(alloc, proxies as usize)?;
+    let mut begins = Vec::with_capacity(alloc, proxies as usize)?;
+    for _made in 0..proxies {
+        commits.push(SharedInbox::new(alloc))?;
+        begins.push(SharedReadVersionProxy::new(alloc))?;
+    }
     Ok((commits, begins))
 }
 
-// An inbox for each proxy. Refused only as `NoMemory`.
-fn make_inboxes<T: Drop>(alloc: Global, proxies: u32) -> Result<Vec<SharedInbox<T>>, Refusal>
+// The resolvers, each of which took nothing, with room for the parts of so many commit proxies. Refused only as
+// `NoMemory`.
+fn make_resolvers<B: DatabaseName>(
+    alloc: Global,
+    book: &Book<B>,
+    resolvers: u32,
+    proxies: u32,
+) -> Result<Vec<SharedResolver<B>>, Refusal>
+    requires { resolvers ≡ suc (length B.config.resolver_splits) }
     ensures { Answers result None (λ _. ⊤) }
 {
-    let mut made = Vec::with_capacity(alloc, proxies as usize)?;
-    for _made in 0..proxies {
-        made.push(SharedInbox::new(alloc))?;
+    let mut made = Vec::with_capacity(alloc, resolvers as usize)?;
+    for number in 0..resolvers {
+        let at = ResolverAt::new(alloc, book, number)?;
+        let role = ResolverRole::new(alloc, number, at, proxies as usize)?;
+        made.push(SharedResolver::new(alloc, role, proxies as usize)?)?;
     }
     Ok(made)
 }

@@ -1,6 +1,6 @@
 ghost use Rattle.std.specs.Prelude.{◌≡◌, IfErr};
 
-use crate::shared::waiting::{give_way, take_lock};
+use crate::shared::waiting::{take_lock, wait_while};
 use fdb_keys::{Refusal, Refused};
 use fdb_sections::Inbox;
 use std::alloc::Global;
@@ -22,14 +22,17 @@ impl<T: Drop> SharedInbox<T> {
         }
     }
 
-    /// Lets the item wait for the inbox's thread. Refused as the inbox ended, and as `NoMemory`; then the item is
-    /// handed back. It waits for no more than the lock, O(1) time but for growth.
+    /// Lets the item wait for who takes it, and wakes nobody. Refused as the inbox ended, and as `NoMemory`; then the
+    /// item is handed back. It waits for no more than the lock, O(1) time but for growth.
     pub(crate) fn put<R: Wait>(&self, rt: &R, item: T) -> Result<(), Refused<T>>
         ensures { IfErr result (λ refused. refused.back ≡ item) }
     {
-        let answer = take_lock(rt, &self.inbox).put(item);
+        take_lock(rt, &self.inbox).put(item)
+    }
+
+    /// Wakes the inbox's thread, if it sleeps.
+    pub(crate) fn wake(&self) {
         self.changed.notify_all();
-        answer
     }
 
     /// Takes out all that waits, in order, and answers why the inbox ended, if it did. It takes no memory.
@@ -39,10 +42,18 @@ impl<T: Drop> SharedInbox<T> {
 
     /// The same once something waits or the inbox has ended. It takes no memory.
     pub(crate) fn next<R: Wait>(&self, rt: &R) -> (Vec<T>, Option<Refusal>) {
-        give_way(&self.inbox, &self.changed, |inbox| inbox.is_idle());
-        let guard = take_lock(rt, &self.inbox);
-        let mut inbox = self.changed.wait_while(rt, guard, |inbox| inbox.is_idle());
-        inbox.take_out()
+        wait_while(rt, &self.inbox, &self.changed, |inbox| inbox.is_idle()).take_out()
+    }
+
+    /// Waits until something waits or the inbox has ended, and tells whether it has. It takes no memory.
+    pub(crate) fn wait<R: Wait>(&self, rt: &R) -> bool {
+        let inbox = wait_while(rt, &self.inbox, &self.changed, |inbox| inbox.is_idle());
+        inbox.ended.is_some()
+    }
+
+    /// Whether nothing waits, and the inbox goes on. It takes no memory.
+    pub(crate) fn is_idle<R: Wait>(&self, rt: &R) -> bool {
+        take_lock(rt, &self.inbox).is_idle()
     }
 
     /// Takes nothing any more, for the first reason that was given, and gives what waits. It takes no memory.

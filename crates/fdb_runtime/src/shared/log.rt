@@ -1,4 +1,4 @@
-use crate::shared::waiting::{give_way, take_lock};
+use crate::shared::waiting::{take_lock, wait_while};
 use fdb_keys::Refusal;
 use fdb_sections::{AckMessage, DatabaseName, LogAt, LogMessage, LogState, PullMachine};
 use std::sync::{Condvar, Mutex, Wait};
@@ -27,11 +27,12 @@ impl<B: DatabaseName> SharedLog<B> {
         message: &LogMessage<B>,
     ) -> Result<AckMessage<B>, Refusal> {
         let prev = message.prev();
-        give_way(&self.state, &self.changed, |state| state.is_before(prev));
-        let guard = take_lock(rt, &self.state);
-        let mut state = self
-            .changed
-            .wait_while(rt, guard, |state| state.is_before(prev));
+        let mut state = wait_while(
+            rt,
+            &self.state,
+            &self.changed,
+            |state| state.is_before(prev),
+        );
         let answer = state.push(message);
         drop(state);
         self.changed.notify_all();
@@ -41,11 +42,12 @@ impl<B: DatabaseName> SharedLog<B> {
     /// Waits until there is a message after the version, or the log has ended, and lends the log to the pull, which
     /// takes what there is.
     pub(crate) fn peek<R: Wait>(&self, rt: &R, after: u64, pull: &mut PullMachine<B>) {
-        give_way(&self.state, &self.changed, |state| state.is_behind(after));
-        let guard = take_lock(rt, &self.state);
-        let state = self
-            .changed
-            .wait_while(rt, guard, |state| state.is_behind(after));
+        let state = wait_while(
+            rt,
+            &self.state,
+            &self.changed,
+            |state| state.is_behind(after),
+        );
         pull.peek_at(&state);
     }
 

@@ -1,7 +1,7 @@
 ghost use Rattle.std.specs.Prelude.{◌≡◌, ◌≤◌, false, IfOk};
 ghost use Rattle.std.specs.Sync.Mutex.{mutex_guard_value};
 
-use crate::shared::waiting::{give_way, take_lock};
+use crate::shared::waiting::{take_lock, wait_while};
 use fdb_keys::{KeyRange, Refusal};
 use fdb_sections::{DatabaseName, PullMachine, ShardAt, ShardState};
 use std::alloc::{AllocError, Global};
@@ -33,12 +33,17 @@ impl<B: DatabaseName> SharedShard<B> {
         ensures { IfOk result (λ guard. let shard = (mutex_guard_value guard).at.shard in
             shard.is_failed ≡ false → version ≤ shard.version) }
     {
-        give_way(&self.state, &self.changed, |state| state.is_behind(version));
-        let guard = take_lock(rt, &self.state);
-        let state = self
-            .changed
-            .wait_while(rt, guard, |state| state.is_behind(version));
+        let state = wait_while(
+            rt,
+            &self.state,
+            &self.changed,
+            |state| state.is_behind(version),
+        );
         state.check(version)?;
+        // It isn't, as that was waited for. But nothing is known of what stands under a lock.
+        if state.is_behind(version) {
+            return Err(Refusal::Failed);
+        }
         Ok(state)
     }
 

@@ -1,6 +1,6 @@
 ghost use Rattle.std.specs.Prelude.{◌≡◌, Some, None};
 
-use crate::shared::waiting::{give_way, take_lock};
+use crate::shared::waiting::{take_lock, wait_while};
 use std::mem;
 use std::sync::{Condvar, Mutex, Wait};
 
@@ -29,9 +29,7 @@ impl<T: Drop> Slot<T> {
 
     /// Takes the reply, once it has come. It takes no memory.
     pub(crate) fn take<R: Wait>(&self, rt: &R) -> Option<T> {
-        give_way(&self.reply, &self.filled, |reply| reply.is_none());
-        let guard = take_lock(rt, &self.reply);
-        let mut reply = self.filled.wait_while(rt, guard, |reply| reply.is_none());
+        let mut reply = wait_while(rt, &self.reply, &self.filled, |reply| reply.is_none());
         take_out(&mut *reply)
     }
 }

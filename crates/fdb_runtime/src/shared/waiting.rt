@@ -18,28 +18,55 @@ pub(crate) fn take_lock<'a, R: Wait, T>(rt: &R, lock: &'a Mutex<T>) -> MutexGuar
     lock.lock(rt)
 }
 
-/// Lets other threads run, some turns long, as long as what stands under the lock is still to be waited for. It is
-/// looked at again only where a change was notified, so that who waits doesn't keep the lock from others. Who calls it
-/// sleeps then, if it still is.
-pub(crate) fn give_way<T, F: Fn(&T) -> bool>(lock: &Mutex<T>, changed: &Condvar, is_awaited: F)
+/// Waits as long as what stands under the lock is still to be waited for, and lends it then. First it lets other
+/// threads run, some turns long, and then it sleeps until a change is notified.
+pub(crate) fn wait_while<'a, R: Wait, T, F: Fn(&T) -> bool>(
+    rt: &R,
+    lock: &'a Mutex<T>,
+    changed: &Condvar,
+    is_awaited: F,
+) -> MutexGuard<'a, T>
     requires { F.IsAlwaysCallable is_awaited }
+{
+    if let Some(guard) = give_way(lock, changed, &is_awaited) {
+        return guard;
+    }
+    let mut guard = take_lock(rt, lock);
+    for _ in rt.forever() {
+        if !is_awaited(&*guard) {
+            break;
+        }
+        guard = changed.wait(rt, guard);
+    }
+    guard
+}
+
+// Lets other threads run, some turns long, and lends what stands under the lock once that isn't to be waited for any
+// more. It is looked at again only where a change was notified, so that who waits doesn't keep the lock from others.
+fn give_way<'a, T, F: Fn(&T) -> bool>(
+    lock: &'a Mutex<T>,
+    changed: &Condvar,
+    is_awaited: &F,
+) -> Option<MutexGuard<'a, T>>
+    requires { F.IsAlwaysCallable is_awaited.now }
 {
     let mut looked = None;
     for _turn in 0..TURNS {
         let notified = Some(changed.notifications());
         if looked != notified
-            && let Some(value) = lock.try_lock()
+            && let Some(guard) = lock.try_lock()
         {
-            if !is_awaited(&*value) {
-                return;
+            if !is_awaited(&*guard) {
+                return Some(guard);
             }
             looked = notified;
         }
         yield_now();
     }
+    None
 }
 
-/// The same for a message that is to be received.
+/// Lets other threads run, some turns long, as long as no message has come.
 pub(crate) fn give_way_to_senders<T: Drop>(from: &Receiver<T>) {
     for _turn in 0..TURNS {
         if !from.is_empty() {

@@ -1,18 +1,22 @@
 use crate::gate::{Pass, Role};
 use crate::shared::Shared;
 use crate::shared::inbox::SharedInbox;
+use crate::shared::resolver::SharedResolver;
 use crate::shared::slot::Slot;
-use crate::threads::channel::{receive, send_to};
+use crate::threads::channel::receive;
 use crate::threads::gated::Gated;
 use crate::threads::request::CommitRequest;
 use crate::threads::worker::Worker;
-use crossbeam_channel::{Receiver, Sender};
+use crossbeam_channel::Receiver;
 use fdb_keys::Refusal;
 use fdb_sections::{
     AckMessage, CommitMachine, CommitReply, DatabaseName, GrantMessage, Issued, LogMessage, Next,
     SentPart, VerdictMessage,
 };
 use std::sync::{Arc, Wait};
+
+// For how many requests in one batch the threads of resolvers are woken. To judge fewer takes less time than that.
+const MANY: u32 = 64;
 
 /// Refuses all of them.
 pub(crate) fn refuse_commits<B: DatabaseName, R: Wait>(
@@ -36,13 +40,15 @@ enum Flow {
     Failed,
 }
 
-/// What a commit proxy's thread has: the proxy, beside the slots of who waits for its answers, and the channels.
+/// What a commit proxy's thread has: the proxy, beside the slots of who waits for its answers, and the channels for
+/// verdicts.
 #[derive(Drop)]
 pub(crate) struct CommitWorker<B: DatabaseName> {
     number: u32,
     machine: CommitMachine<B, Arc<Slot<CommitReply<B>>>>,
-    parts: Vec<Sender<Option<SentPart<B>>>>,
     verdicts: Vec<Receiver<Option<VerdictMessage<B>>>>,
+    // How many requests were taken since the last report, about as many as the batch has.
+    taken: u32,
 }
 
 impl<B: DatabaseName + Send + Sync + 'static, G: Pass + Send + Sync + 'static> Worker<Gated<B, G>>
@@ -69,14 +75,13 @@ impl<B: DatabaseName> CommitWorker<B> {
     pub(crate) fn new(
         number: u32,
         machine: CommitMachine<B, Arc<Slot<CommitReply<B>>>>,
-        parts: Vec<Sender<Option<SentPart<B>>>>,
         verdicts: Vec<Receiver<Option<VerdictMessage<B>>>>,
     ) -> Self {
         CommitWorker {
             number,
             machine,
-            parts,
             verdicts,
+            taken: 0,
         }
     }
 
@@ -92,8 +97,8 @@ impl<B: DatabaseName> CommitWorker<B> {
             Next::Request => return self.wait_for_requests(rt, inbox),
             Next::Seal => return self.enter(rt, gate, shared, inbox),
             Next::Entry => Err(Refusal::Failed),
-            Next::Part => self.send_part(rt),
-            Next::Verdicts(resolver) => self.take_verdicts(rt, resolver),
+            Next::Part => self.send_part(rt, gate, shared),
+            Next::Verdicts(resolver) => self.take_verdicts(rt, gate, shared, resolver),
             Next::Message => self.push_message(rt, shared),
             Next::Acknowledgement(_) => Err(Refusal::Failed),
             Next::Report => self.report(rt, gate, shared),
@@ -142,6 +147,7 @@ impl<B: DatabaseName> CommitWorker<B> {
 
     // Takes a request, or answers why it is refused.
     fn take<R: Wait>(&mut self, rt: &R, request: CommitRequest<B>) {
+        self.taken = self.taken.saturating_add(1);
         let CommitRequest { asked, reply } = request;
         if let Err(refused) = self.machine.submit(asked, reply) {
             refused.back.put(rt, CommitReply::Refused(refused.why));
@@ -213,21 +219,39 @@ impl<B: DatabaseName> CommitWorker<B> {
         }
     }
 
-    // Sends a resolver its part.
-    fn send_part<R: Wait>(&mut self, rt: &R) -> Result<(), Refusal> {
+    // Sends a resolver its part. This thread turns to the resolvers itself, to the first one at once: so the others'
+    // threads are woken only where the batch is large, or where a gate may hold this one.
+    fn send_part<R: Wait, G: Pass>(
+        &mut self,
+        rt: &R,
+        gate: &G,
+        shared: &Shared<B>,
+    ) -> Result<(), Refusal> {
         let Some(message) = self.machine.ready_part() else {
             return Err(Refusal::Failed);
         };
-        let resolver = message.resolver();
+        let number = message.resolver();
         let sent = SentPart {
             proxy: self.number,
             message,
         };
-        send_to(rt, self.parts.get(resolver as usize), sent)
+        let resolver = resolver_of(shared, number)?;
+        resolver.put(rt, sent)?;
+        if number > 0 && (self.taken >= MANY || gate.may_wait()) {
+            resolver.wake();
+        }
+        Ok(())
     }
 
-    // Waits for the verdicts of the resolver with the number.
-    fn take_verdicts<R: Wait>(&mut self, rt: &R, resolver: u32) -> Result<(), Refusal> {
+    // Waits for the verdicts of the resolver with the number, with which this thread works where no other one does.
+    fn take_verdicts<R: Wait, G: Pass>(
+        &mut self,
+        rt: &R,
+        gate: &G,
+        shared: &Shared<B>,
+        resolver: u32,
+    ) -> Result<(), Refusal> {
+        resolver_of(shared, resolver)?.serve(rt, gate);
         let Some(from) = self.verdicts.get(resolver as usize) else {
             return Err(Refusal::Failed);
         };
@@ -256,6 +280,7 @@ impl<B: DatabaseName> CommitWorker<B> {
     ) -> Result<(), Refusal> {
         let reported = shared.report(rt, self.machine.logged_front()?)?;
         self.machine.reported(&reported)?;
+        self.taken = 0;
         drop(reported);
         self.tell_all(rt);
         if let Some(entry) = self.machine.entry() {
@@ -278,7 +303,7 @@ impl<B: DatabaseName> CommitWorker<B> {
     // all may come to know of a batch that has an entry: resolvers and logs are told, who would wait for it for ever.
     fn fail<R: Wait>(&mut self, rt: &R, shared: &Shared<B>, inbox: &SharedInbox<CommitRequest<B>>) {
         if self.machine.fail() {
-            tell_resolvers(rt, self.parts.as_slice());
+            end_resolvers(rt, shared);
             end_logs(rt, shared);
         }
         self.tell_all(rt);
@@ -286,10 +311,21 @@ impl<B: DatabaseName> CommitWorker<B> {
     }
 }
 
-// Tells the resolvers that the proxy failed.
-fn tell_resolvers<B: DatabaseName, R: Wait>(rt: &R, parts: &[Sender<Option<SentPart<B>>>]) {
-    for resolver in parts {
-        let _ = resolver.send(rt, None);
+// No resolver takes anything any more.
+fn end_resolvers<B: DatabaseName, R: Wait>(rt: &R, shared: &Shared<B>) {
+    for resolver in shared.resolvers() {
+        resolver.end(rt);
+    }
+}
+
+// The resolver with the number. Refused as `Failed` where there is none.
+fn resolver_of<B: DatabaseName>(
+    shared: &Shared<B>,
+    number: u32,
+) -> Result<&SharedResolver<B>, Refusal> {
+    match shared.resolvers().get(number as usize) {
+        Some(resolver) => Ok(resolver),
+        None => Err(Refusal::Failed),
     }
 }
 

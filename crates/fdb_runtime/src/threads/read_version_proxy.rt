@@ -1,87 +1,26 @@
 use crate::gate::Pass;
-use crate::shared::Shared;
-use crate::shared::slot::Slot;
 use crate::threads::gated::Gated;
-use crate::threads::request::BeginRequest;
 use crate::threads::worker::Worker;
-use fdb_keys::Refusal;
-use fdb_sections::{DatabaseName, GrantReply, ReadVersionMachine};
-use std::alloc::Global;
-use std::sync::{Arc, Wait};
+use fdb_sections::DatabaseName;
+use std::sync::Wait;
 
-/// Refuses all of them.
-pub(crate) fn refuse_begins<B: DatabaseName, R: Wait>(
-    rt: &R,
-    asked: Vec<BeginRequest<B>>,
-    why: Refusal,
-) {
-    for request in asked {
-        request.reply.put(rt, GrantReply::Refused(why));
-    }
-}
-
-/// What a read-version proxy's thread has: the proxy, beside the slots of who waits for its answers.
+/// The thread of the read-version proxy with the number, which stands among what all threads share.
 #[derive(Drop)]
-pub(crate) struct ReadVersionWorker<B: DatabaseName> {
-    number: u32,
-    machine: ReadVersionMachine<B, Arc<Slot<GrantReply<B>>>>,
+pub(crate) struct ReadVersionWorker {
+    pub(crate) number: u32,
 }
 
 impl<B: DatabaseName + Send + Sync + 'static, G: Pass + Send + Sync + 'static> Worker<Gated<B, G>>
-    for ReadVersionWorker<B> {
-    // Answers who asks for a read version, until the inbox ends.
+    for ReadVersionWorker {
+    // Answers those whom no asker's own thread answers, until the proxy has ended.
     fn work<R: Wait>(&mut self, rt: &R, lent: &Gated<B, G>) {
-        let shared = &*lent.shared;
-        let Some(inbox) = shared.begins().get(self.number as usize) else {
+        let Some(proxy) = lent.shared.begins().get(self.number as usize) else {
             return;
         };
         for _ in rt.forever() {
-            let (asked, ended) = inbox.next(rt);
-            self.turn(rt, shared, asked);
-            if ended.is_some() {
+            if proxy.serve(rt, &*lent.shared) {
                 return;
             }
-        }
-    }
-}
-
-impl<B: DatabaseName> ReadVersionWorker<B> {
-    /// The proxy with the number, which nobody has asked. It takes no memory.
-    pub(crate) fn new(alloc: Global, number: u32) -> Self {
-        ReadVersionWorker {
-            number,
-            machine: ReadVersionMachine::new(alloc),
-        }
-    }
-
-    // Answers all who asked, with one grant of the sequencer.
-    fn turn<R: Wait>(&mut self, rt: &R, shared: &Shared<B>, asked: Vec<BeginRequest<B>>) {
-        for request in asked {
-            self.take(rt, request);
-        }
-        self.machine.granted(shared.granted(rt));
-        self.tell_all(rt);
-    }
-
-    // Takes a request, which is refused at once where memory runs out.
-    fn take<R: Wait>(&mut self, rt: &R, request: BeginRequest<B>) {
-        let BeginRequest {
-            session,
-            mark,
-            reply,
-        } = request;
-        if let Err(refused) = self.machine.ask(session, mark, reply) {
-            refused.back.put(rt, GrantReply::Refused(refused.why));
-        }
-    }
-
-    // Gives all answers that are ready to who waits for them.
-    fn tell_all<R: Wait>(&mut self, rt: &R) {
-        for _ in rt.forever() {
-            let Some((who, reply)) = self.machine.ready() else {
-                return;
-            };
-            who.put(rt, reply);
         }
     }
 }

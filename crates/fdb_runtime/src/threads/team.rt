@@ -6,7 +6,6 @@ use crate::gate::Gate;
 use crate::shared::Shared;
 use crate::threads::commit_proxy::refuse_commits;
 use crate::threads::gated::Gated;
-use crate::threads::read_version_proxy::refuse_begins;
 use crate::threads::worker::{join_all, start_all};
 use crate::threads::workers::Workers;
 use fdb_keys::Refusal;
@@ -63,12 +62,14 @@ impl Team {
         for inbox in shared.commits() {
             refuse_commits(rt, inbox.end(rt, Refusal::Closed), Refusal::Closed);
         }
-        for inbox in shared.begins() {
-            refuse_begins(rt, inbox.end(rt, Refusal::Closed), Refusal::Closed);
+        for proxy in shared.begins() {
+            proxy.end(rt, Refusal::Closed);
         }
         join_all(rt, commits);
         join_all(rt, begins);
-        // Their channels went with the last commit proxy.
+        for resolver in shared.resolvers() {
+            resolver.end(rt);
+        }
         join_all(rt, resolvers);
         for log in shared.logs() {
             log.end(rt, Refusal::Closed);
