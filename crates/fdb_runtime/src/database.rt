@@ -9,8 +9,8 @@ ghost use Rattle.fdb_sequencer.specs.Sequencer.{set_window_fault};
 
 use crate::gate::Gate;
 use crate::session::Session;
-use crate::shared::Shared;
 use crate::shared::shard::{hold_all, lent_of};
+use crate::shared::{Shared, tie_all};
 use crate::status::{Status, status_of};
 use crate::threads::gated::Gated;
 use crate::threads::team::Team;
@@ -196,8 +196,9 @@ fn start_team<
     ensures { Answers result None (λ _. ⊤) }
 {
     let gated = Gated::share(shared, gate)?;
+    tie_all(rt, &**shared)?;
     let mut workers = Workers::new(shared.alloc);
-    workers.add_all(rt, &**shared, config)?;
+    workers.add_all(config)?;
     team.start(rt, &gated, &mut workers)
 }
 

@@ -19,8 +19,10 @@ ghost use Rattle.fdb_sections.specs.ShardViews.{run_of};
 ghost use Rattle.fdb_sections.specs.Refusals.{is_of_begin, is_of_read};
 ghost use Rattle.fdb_sections.specs.Sessions.{learning, with_current};
 
+use crate::gate::NoGate;
 use crate::options::ReadOptions;
 use crate::shared::Shared;
+use crate::shared::role::{Lent, ask};
 use crate::shared::snapshot::SharedShards;
 use crate::threads::reply::Slots;
 use crate::threads::request::{BeginRequest, CommitRequest};
@@ -187,7 +189,13 @@ impl<B: DatabaseName> Session<B> {
             mark: self.client.mark(),
             reply: self.slots.grants()?,
         };
-        proxy.ask(rt, &*self.shared, request)?;
+        let lent = Lent {
+            shared: &*self.shared,
+            gate: &NoGate,
+        };
+        if let Err(refused) = ask(rt, &lent, proxy, request) {
+            return Err(Refusal::from(refused));
+        }
         match self.slots.next_grant(rt) {
             Some(GrantReply::Granted(granted)) => Ok(granted),
             Some(GrantReply::Refused(why)) => Err(why),
@@ -428,7 +436,7 @@ impl<B: ClusterName, L: Layer> Session<Layered<B, L>> {
     }
 }
 
-// What the session's commit proxy tells of the request, or why its inbox didn't take that.
+// What the session's commit proxy tells of the request, or why it didn't take that.
 fn ask_commit<B: DatabaseName, R: Wait>(
     rt: &R,
     shared: &Shared<B>,
@@ -436,15 +444,15 @@ fn ask_commit<B: DatabaseName, R: Wait>(
     number: u32,
     request: CommitRequest<B>,
 ) -> CommitReply<B> {
-    let inboxes = shared.commits();
-    if inboxes.is_empty() {
+    let proxies = shared.commits();
+    if proxies.is_empty() {
         return CommitReply::Refused(Refusal::Failed);
     }
-    let inbox = &inboxes[number as usize % inboxes.len()];
-    if let Err(refused) = inbox.put(rt, request) {
+    let proxy = &proxies[number as usize % proxies.len()];
+    if let Err(refused) = proxy.put(rt, request) {
         return CommitReply::Refused(Refusal::from(refused));
     }
-    inbox.wake();
+    proxy.wake();
     slots
         .next_outcome(rt)
         .unwrap_or(CommitReply::Refused(Refusal::CommitUnknownResult))

@@ -5,38 +5,40 @@ ghost use Rattle.fdb_proxy.specs.Configs.{config_fault};
 ghost use Rattle.fdb_runtime.specs.Databases.{AnswersMove, is_bad_move};
 ghost use Rattle.fdb_sequencer.specs.Sequencer.{set_window_fault};
 
-use crate::threads::request::CommitRequest;
+use crate::threads::channel::roomy;
+use commit_proxy::{CommitRole, SharedCommitProxy};
+use crossbeam_channel::{Receiver, Sender};
 use fdb_book::Book;
 use fdb_keys::{Key, KeyRange, Refusal, is_before};
 use fdb_proxy::Config;
 use fdb_sections::{
     BatchMessage, DatabaseName, GrantMessage, Issued, LogAt, LoggedFront, Reported, ResolverAt,
-    SequencerAt, ShardAt, both,
+    SequencerAt, ShardAt, VerdictMessage, both,
 };
 use fdb_storage::ShardMap;
 use fdb_txn::Move;
-use inbox::SharedInbox;
 use log::SharedLog;
-use read_version_proxy::SharedReadVersionProxy;
-use resolver::SharedResolver;
-use resolver::role::ResolverRole;
+use read_version_proxy::{ReadVersionRole, SharedReadVersionProxy};
+use resolver::{SharedResolver, share_resolver};
+use role::SharedRole;
 use shard::SharedShard;
 use std::alloc::Global;
 use std::sync::{Mutex, Wait};
 use waiting::take_lock;
 
-pub(crate) mod inbox;
+pub(crate) mod commit_proxy;
 pub(crate) mod log;
+pub(crate) mod place;
 pub(crate) mod read_version_proxy;
 pub(crate) mod resolver;
+pub(crate) mod role;
 pub(crate) mod shard;
 pub(crate) mod slot;
 pub(crate) mod snapshot;
 pub(crate) mod waiting;
 
 /// What all threads of a database and its sessions share. Each lock in it is taken with no other one held, but for
-/// those of shards by who closes the database, which are taken in the order of the shards, and for what who has a
-/// read-version proxy takes, one at a time: its inbox, the sequencer and the slots of who asked.
+/// those of shards by who closes the database, which are taken in the order of the shards.
 #[derive(Drop)]
 pub(crate) struct Shared<B: DatabaseName> {
     pub(crate) alloc: Global,
@@ -48,15 +50,15 @@ pub(crate) struct Shared<B: DatabaseName> {
     shard_map: ShardMap,
     logs: Vec<SharedLog<B>>,
     shards: Vec<SharedShard<B>>,
-    commits: Vec<SharedInbox<CommitRequest<B>>>,
+    commits: Vec<SharedCommitProxy<B>>,
     begins: Vec<SharedReadVersionProxy<B>>,
     resolvers: Vec<SharedResolver<B>>,
     ghost limited: { limit ≡ B.config.book },
 }
 
 impl<B: DatabaseName> Shared<B> {
-    /// The state of a database in which nothing happened. Refused as `BadConfig` where the configuration isn't legal,
-    /// and as `NoMemory`.
+    /// The state of a database in which nothing happened, and in which roles aren't tied to each other yet. Refused as
+    /// `BadConfig` where the configuration isn't legal, and as `NoMemory`.
     pub(crate) fn new(
         alloc: Global,
         book: Book<B>,
@@ -87,11 +89,12 @@ impl<B: DatabaseName> Shared<B> {
     {
         let sequencer = SequencerAt::new(alloc, &book, config.proxies, resolvers);
         let logs_and_shards = make_logs_and_shards(alloc, &book, config, tags);
-        let proxies = make_proxies(alloc, config.proxies);
+        let commits = make_commits(alloc, &book, config, resolvers);
+        let begins = make_begins(alloc, config.proxies);
         let resolvers = make_resolvers(alloc, &book, resolvers, config.proxies);
-        let (sequencer, (logs_and_shards, ((commits, begins), resolvers))) = both(
+        let (sequencer, (logs_and_shards, (resolvers, (commits, begins)))) = both(
             sequencer,
-            both(logs_and_shards, both(proxies, resolvers)),
+            both(logs_and_shards, both(resolvers, both(commits, begins))),
         )?;
         let (shard_map, logs, shards) = logs_and_shards;
         Ok(Shared {
@@ -214,8 +217,8 @@ impl<B: DatabaseName> Shared<B> {
         self.shard_map.shard_of(key)
     }
 
-    /// The inboxes of the commit proxies.
-    pub(crate) fn commits(&self) -> &[SharedInbox<CommitRequest<B>>] {
+    /// The commit proxies.
+    pub(crate) fn commits(&self) -> &[SharedCommitProxy<B>] {
         self.commits.as_slice()
     }
 
@@ -321,26 +324,37 @@ fn make_shards<B: DatabaseName>(
     Ok(made)
 }
 
-// The inboxes of the commit proxies, and the read-version proxies. Refused only as `NoMemory`.
-fn make_proxies<B: DatabaseName>(
+// The commit proxies, which nobody has asked. Refused only as `NoMemory`.
+fn make_commits<B: DatabaseName>(
     alloc: Global,
-    proxies: u32,
-) -> Result<
-    (
-        Vec<SharedInbox<CommitRequest<B>>>,
-        Vec<SharedReadVersionProxy<B>>,
-    ),
-    Refusal,
->
+    book: &Book<B>,
+    config: &Config,
+    resolvers: u32,
+) -> Result<Vec<SharedCommitProxy<B>>, Refusal>
+    requires config { config.now ≡ B.config }
+    requires legal { config_fault B.config ≡ None }
     ensures { Answers result None (λ _. ⊤) }
 {
-    let mut commits = Vec::with_capacity(alloc, proxies as usize)?;
-    let mut begins = Vec::with_capacity(alloc, proxies as usize)?;
-    for _made in 0..proxies {
-        commits.push(SharedInbox::new(alloc))?;
-        begins.push(SharedReadVersionProxy::new(alloc))?;
+    let mut made = Vec::with_capacity(alloc, config.proxies as usize)?;
+    for number in 0..config.proxies {
+        let role = CommitRole::new(alloc, book, number, config, resolvers)?;
+        made.push(SharedRole::new(alloc, role))?;
     }
-    Ok((commits, begins))
+    Ok(made)
+}
+
+// The read-version proxies, which nobody has asked. Refused only as `NoMemory`.
+fn make_begins<B: DatabaseName>(
+    alloc: Global,
+    proxies: u32,
+) -> Result<Vec<SharedReadVersionProxy<B>>, Refusal>
+    ensures { Answers result None (λ _. ⊤) }
+{
+    let mut made = Vec::with_capacity(alloc, proxies as usize)?;
+    for _made in 0..proxies {
+        made.push(SharedRole::new(alloc, ReadVersionRole::new(alloc)))?;
+    }
+    Ok(made)
 }
 
 // The resolvers, each of which took nothing, with room for the parts of so many commit proxies. Refused only as
@@ -357,8 +371,62 @@ fn make_resolvers<B: DatabaseName>(
     let mut made = Vec::with_capacity(alloc, resolvers as usize)?;
     for number in 0..resolvers {
         let at = ResolverAt::new(alloc, book, number)?;
-        let role = ResolverRole::new(alloc, number, at, proxies as usize)?;
-        made.push(SharedResolver::new(alloc, role, proxies as usize)?)?;
+        made.push(share_resolver(alloc, number, at, proxies as usize)?)?;
     }
     Ok(made)
+}
+
+/// Ties each commit proxy to each resolver, by a channel for verdicts, before any thread works with them. Refused only
+/// as `NoMemory`.
+pub(crate) fn tie_all<B: DatabaseName, R: Wait>(rt: &R, shared: &Shared<B>) -> Result<(), Refusal>
+    ensures { Answers result None (λ _. ⊤) }
+{
+    for proxy in shared.commits() {
+        tie_one(rt, shared, proxy)?;
+    }
+    Ok(())
+}
+
+// Ties the next commit proxy to all resolvers. Refused only as `NoMemory`.
+fn tie_one<B: DatabaseName, R: Wait>(
+    rt: &R,
+    shared: &Shared<B>,
+    proxy: &SharedCommitProxy<B>,
+) -> Result<(), Refusal>
+    ensures { Answers result None (λ _. ⊤) }
+{
+    for resolver in shared.resolvers() {
+        let (to, from) = roomy(rt, shared.alloc, 1)?;
+        tie_verdicts_to(rt, proxy, from)?;
+        tie_verdicts_of(rt, resolver, to)?;
+    }
+    Ok(())
+}
+
+// The commit proxy receives verdicts from there. Refused only as `NoMemory`.
+fn tie_verdicts_to<B: DatabaseName, R: Wait>(
+    rt: &R,
+    proxy: &SharedCommitProxy<B>,
+    from: Receiver<Option<VerdictMessage<B>>>,
+) -> Result<(), Refusal>
+    ensures { Answers result None (λ _. ⊤) }
+{
+    match &mut proxy.lock(rt).resting {
+        Some(busy) => busy.role.tie(from),
+        None => Ok(()),
+    }
+}
+
+// The resolver sends verdicts there. Refused only as `NoMemory`.
+fn tie_verdicts_of<B: DatabaseName, R: Wait>(
+    rt: &R,
+    resolver: &SharedResolver<B>,
+    to: Sender<Option<VerdictMessage<B>>>,
+) -> Result<(), Refusal>
+    ensures { Answers result None (λ _. ⊤) }
+{
+    match &mut resolver.lock(rt).resting {
+        Some(busy) => busy.role.tie(to),
+        None => Ok(()),
+    }
 }

@@ -1,167 +1,114 @@
-//! A resolver that threads share: its own thread works with it, or a commit proxy's that waits for it.
+//! A resolver that threads share.
 ghost use Rattle.std.specs.Prelude.{◌≡◌, ⊤, None};
 ghost use Rattle.fdb_keys.specs.Answers.{Answers};
 
-use crate::gate::Pass;
-use crate::shared::waiting::{take_lock, wait_while};
+use crate::gate::{Pass, Role};
+use crate::shared::Shared;
+use crate::shared::role::{Act, Lent, SharedRole};
+use crate::threads::channel::send_to;
 use crossbeam_channel::Sender;
 use fdb_keys::Refusal;
-use fdb_sections::{DatabaseName, SentPart, VerdictMessage};
-use role::ResolverRole;
+use fdb_sections::{DatabaseName, ResolverAt, ResolverMachine, SentPart, VerdictMessage};
 use std::alloc::Global;
-use std::mem;
-use std::sync::{Condvar, Mutex, Wait};
+use std::sync::Wait;
 
-pub(crate) mod role;
+/// A resolver that threads share. What waits for it are parts, of each commit proxy one at the most.
+pub(crate) type SharedResolver<B> = SharedRole<ResolverRole<B>, SentPart<B>>;
 
-// What stands under the lock.
-#[derive(Drop)]
-struct Place<B: DatabaseName> {
-    // What came. There is room for one part of each commit proxy, which has no more in flight.
-    parts: Vec<SentPart<B>>,
-    // The resolver, unless a thread works with it.
-    resting: Option<ResolverRole<B>>,
-    // Whether nothing is taken any more.
-    has_ended: bool,
+/// The resolver with the number, which no commit proxy is tied to yet, with room for the parts of so many. Refused only
+/// as `NoMemory`.
+pub(crate) fn share_resolver<B: DatabaseName>(
+    alloc: Global,
+    number: u32,
+    at: ResolverAt<B>,
+    proxies: usize,
+) -> Result<SharedResolver<B>, Refusal>
+    ensures { Answers result None (λ _. ⊤) }
+{
+    let waiting = Vec::with_capacity(alloc, proxies)?;
+    let items = Vec::with_capacity(alloc, proxies)?;
+    let role = ResolverRole::new(alloc, number, at);
+    Ok(SharedRole::with_room(role, waiting, items))
 }
 
-impl<B: DatabaseName> Place<B> {
-    // Whether the resolver's thread has nothing to do.
-    fn is_quiet(&self) -> bool {
-        !self.has_ended && (self.parts.is_empty() || self.resting.is_none())
+/// A resolver, and the channels for its verdicts.
+#[derive(Drop)]
+pub(crate) struct ResolverRole<B: DatabaseName> {
+    number: u32,
+    machine: ResolverMachine<B>,
+    // One channel for each commit proxy, so that each of them sees at once that the resolver ended.
+    verdicts: Vec<Sender<Option<VerdictMessage<B>>>>,
+}
+
+impl<B: DatabaseName> ResolverRole<B> {
+    // The resolver with the number, which no commit proxy is tied to yet. It takes no memory.
+    fn new(alloc: Global, number: u32, at: ResolverAt<B>) -> Self {
+        ResolverRole {
+            number,
+            machine: ResolverMachine::new(alloc, at),
+            verdicts: Vec::new(alloc),
+        }
     }
 
-    // Lets the part wait. Refused as `Failed` where nothing is taken any more, and as `NoMemory`.
-    fn put(&mut self, sent: SentPart<B>) -> Result<(), Refusal> {
-        if self.has_ended {
-            return Err(Refusal::Failed);
-        }
-        self.parts.push(sent)?;
+    /// Ties the next commit proxy to the resolver, by the channel for its verdicts. Refused only as `NoMemory`.
+    pub(crate) fn tie(&mut self, verdicts: Sender<Option<VerdictMessage<B>>>) -> Result<(), Refusal>
+        ensures { Answers result None (λ _. ⊤) }
+    {
+        self.verdicts.push(verdicts)?;
         Ok(())
     }
 
-    // Gives the resolver to who works with it, where it rests and something came.
-    fn leave(&mut self) -> Option<ResolverRole<B>> {
-        if self.parts.is_empty() {
-            return None;
-        }
-        let role = self.resting.take()?;
-        Some(self.with_parts(role))
-    }
-
-    // Takes the resolver back, unless something came meanwhile. Where it has ended, it is dropped.
-    fn come_back(&mut self, role: ResolverRole<B>) -> Option<ResolverRole<B>> {
-        if self.has_ended {
-            return None;
-        }
-        if self.parts.is_empty() {
-            self.resting = Some(role);
-            return None;
-        }
-        Some(self.with_parts(role))
-    }
-
-    // The resolver, with what came.
-    fn with_parts(&mut self, mut role: ResolverRole<B>) -> ResolverRole<B> {
-        role.take_over(&mut self.parts);
-        role
-    }
-}
-
-/// A resolver that threads share. One thread at a time works with it, and holds no lock meanwhile.
-#[derive(Drop)]
-pub(crate) struct SharedResolver<B: DatabaseName> {
-    place: Mutex<Place<B>>,
-    changed: Condvar,
-}
-
-impl<B: DatabaseName> SharedResolver<B> {
-    /// The resolver, to which nothing came, with room for the parts of so many commit proxies. Refused only as
-    /// `NoMemory`.
-    pub(crate) fn new(alloc: Global, role: ResolverRole<B>, proxies: usize) -> Result<Self, Refusal>
-        ensures { Answers result None (λ _. ⊤) }
-    {
-        let parts = Vec::with_capacity(alloc, proxies)?;
-        Ok(SharedResolver {
-            place: Mutex::new(Place {
-                parts,
-                resting: Some(role),
-                has_ended: false,
-            }),
-            changed: Condvar::new(),
-        })
-    }
-
-    /// Ties the next commit proxy to the resolver, by the channel for its verdicts, before any thread works with it.
-    /// Refused only as `NoMemory`.
-    pub(crate) fn tie<R: Wait>(
-        &self,
+    // Takes the part, and answers all parts whose turn has come.
+    fn turn<R: Wait, G: Pass>(
+        &mut self,
         rt: &R,
-        verdicts: Sender<Option<VerdictMessage<B>>>,
-    ) -> Result<(), Refusal>
-        ensures { Answers result None (λ _. ⊤) }
-    {
-        match &mut take_lock(rt, &self.place).resting {
-            Some(role) => role.tie(verdicts),
+        gate: &G,
+        sent: SentPart<B>,
+    ) -> Result<(), Refusal> {
+        self.machine.take(sent)?;
+        for _ in rt.forever() {
+            let Some(entry) = self.machine.next() else {
+                break;
+            };
+            self.answer(rt, gate, entry)?;
+        }
+        Ok(())
+    }
+
+    // Sends the verdicts on the entry to who asked for them.
+    fn answer<R: Wait, G: Pass>(&mut self, rt: &R, gate: &G, entry: u32) -> Result<(), Refusal> {
+        let role = Role::Resolver(self.number);
+        gate.before(role, entry);
+        let ready = self.machine.ready()?;
+        gate.after(role, entry);
+        match ready {
+            Some(sent) => send_to(rt, self.verdicts.get(sent.proxy as usize), sent.message),
             None => Ok(()),
         }
     }
+}
 
-    /// Lets the part wait for who works with the resolver next, and wakes nobody. Refused as `Failed` once the resolver
-    /// has ended, and as `NoMemory`; then the part is dropped.
-    pub(crate) fn put<R: Wait>(&self, rt: &R, sent: SentPart<B>) -> Result<(), Refusal> {
-        take_lock(rt, &self.place).put(sent)
-    }
-
-    /// Wakes the resolver's thread, if it sleeps.
-    pub(crate) fn wake(&self) {
-        self.changed.notify_one();
-    }
-
-    /// Works with the resolver until nothing more has come, unless another thread does, which then does this too. Where
-    /// the resolver fails, it has ended.
-    pub(crate) fn serve<R: Wait, G: Pass>(&self, rt: &R, gate: &G) {
-        let mut left = take_lock(rt, &self.place).leave();
-        for _ in rt.forever() {
-            let Some(role) = left else {
-                return;
-            };
-            left = self.go_on(rt, gate, role);
-        }
-    }
-
-    // Has the resolver do what came, and gives it back, unless something came meanwhile.
-    fn go_on<R: Wait, G: Pass>(
-        &self,
+impl<B: DatabaseName> Act<B, SentPart<B>> for ResolverRole<B> {
+    // Takes the parts, in any order, and answers all parts whose turn has come.
+    fn act<R: Wait, G: Pass>(
+        &mut self,
         rt: &R,
-        gate: &G,
-        mut role: ResolverRole<B>,
-    ) -> Option<ResolverRole<B>> {
-        if role.work(rt, gate).is_ok() {
-            return take_lock(rt, &self.place).come_back(role);
+        lent: &Lent<'_, B, G>,
+        items: &mut Vec<SentPart<B>>,
+    ) -> Result<(), Refusal> {
+        for sent in items.drain(..) {
+            self.turn(rt, lent.gate, sent)?;
         }
-        // All commit proxies see at once that it ended, as their channels go with it.
-        drop(role);
-        self.end(rt);
-        None
+        Ok(())
     }
 
-    /// The resolver takes nothing any more, and its channels are gone once nobody works with it. It takes no memory.
-    pub(crate) fn end<R: Wait>(&self, rt: &R) {
-        let mut place = take_lock(rt, &self.place);
-        place.has_ended = true;
-        let nothing = Vec::new(*place.parts.allocator());
-        let parts = mem::replace(&mut place.parts, nothing);
-        let role = place.resting.take();
-        drop(place);
-        self.changed.notify_all();
-        drop(parts);
-        drop(role);
+    // All commit proxies see at once that it ended, as their channels are gone.
+    fn fail<R: Wait>(&mut self, _rt: &R, _shared: &Shared<B>) {
+        self.verdicts = Vec::new(*self.verdicts.allocator());
     }
 
-    /// Waits until the resolver's thread has something to do, and tells whether the resolver has ended. It takes no
-    /// memory.
-    pub(crate) fn has_ended<R: Wait>(&self, rt: &R) -> bool {
-        wait_while(rt, &self.place, &self.changed, |place| place.is_quiet()).has_ended
+    // Who sent the part sees that the resolver ended.
+    fn refuse<R: Wait>(_rt: &R, _shared: &Shared<B>, item: SentPart<B>, _why: Refusal) {
+        drop(item);
     }
 }

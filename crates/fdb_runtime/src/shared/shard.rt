@@ -40,10 +40,6 @@ impl<B: DatabaseName> SharedShard<B> {
             |state| state.is_behind(version),
         );
         state.check(version)?;
-        // It isn't, as that was waited for. But nothing is known of what stands under a lock.
-        if state.is_behind(version) {
-            return Err(Refusal::Failed);
-        }
         Ok(state)
     }
 

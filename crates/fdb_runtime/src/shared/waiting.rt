@@ -1,4 +1,8 @@
 // How a thread waits for a lock, and for what comes under one.
+ghost use Rattle.std.specs.Prelude.{false, IfSome};
+ghost use Rattle.std.specs.Fn.{FnReturnsAt};
+ghost use Rattle.std.specs.Sync.Mutex.{mutex_guard_value};
+
 use crossbeam_channel::Receiver;
 use std::sync::{Condvar, Mutex, MutexGuard, Wait};
 use std::thread::yield_now;
@@ -27,6 +31,7 @@ pub(crate) fn wait_while<'a, R: Wait, T, F: Fn(&T) -> bool>(
     is_awaited: F,
 ) -> MutexGuard<'a, T>
     requires { F.IsAlwaysCallable is_awaited }
+    ensures { FnReturnsAt F.Fn is_awaited (mutex_guard_value result) false }
 {
     if let Some(guard) = give_way(lock, changed, &is_awaited) {
         return guard;
@@ -34,7 +39,7 @@ pub(crate) fn wait_while<'a, R: Wait, T, F: Fn(&T) -> bool>(
     let mut guard = take_lock(rt, lock);
     for _ in rt.forever() {
         if !is_awaited(&*guard) {
-            break;
+            return guard;
         }
         guard = changed.wait(rt, guard);
     }
@@ -49,6 +54,7 @@ fn give_way<'a, T, F: Fn(&T) -> bool>(
     is_awaited: &F,
 ) -> Option<MutexGuard<'a, T>>
     requires { F.IsAlwaysCallable is_awaited.now }
+    ensures { IfSome result (λ guard. FnReturnsAt F.Fn is_awaited.now (mutex_guard_value guard) false) }
 {
     let mut looked = None;
     for _turn in 0..TURNS {

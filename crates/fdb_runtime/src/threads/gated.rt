@@ -4,6 +4,7 @@ ghost use Rattle.fdb_keys.specs.Answers.{Answers};
 
 use crate::gate::Pass;
 use crate::shared::Shared;
+use crate::shared::role::Lent;
 use fdb_keys::Refusal;
 use fdb_sections::DatabaseName;
 use std::sync::Arc;
@@ -24,5 +25,13 @@ impl<B: DatabaseName, G: Pass> Gated<B, G> {
         let shared = Arc::try_clone(shared)?;
         let gate = Arc::try_clone(gate)?;
         Ok(Arc::new(alloc, Gated { shared, gate })?)
+    }
+
+    /// What a role is lent of both.
+    pub(crate) fn lend(&self) -> Lent<'_, B, G> {
+        Lent {
+            shared: &*self.shared,
+            gate: &*self.gate,
+        }
     }
 }

@@ -4,7 +4,7 @@ ghost use Rattle.fdb_keys.specs.Answers.{Answers};
 
 use crate::gate::Gate;
 use crate::shared::Shared;
-use crate::threads::commit_proxy::refuse_commits;
+use crate::shared::role::end;
 use crate::threads::gated::Gated;
 use crate::threads::worker::{join_all, start_all};
 use crate::threads::workers::Workers;
@@ -39,7 +39,7 @@ impl Team {
         B: DatabaseName + Send + Sync + 'static,
         G: Gate + 'static,
         R: Threads + Wait + Copy + Send + Sync + 'static,
-    >(&mut self, rt: &R, gated: &Arc<Gated<B, G>>, workers: &mut Workers<B>) -> Result<(), Refusal>
+    >(&mut self, rt: &R, gated: &Arc<Gated<B, G>>, workers: &mut Workers) -> Result<(), Refusal>
         ensures { Answers result None (λ _. ⊤) }
     {
         start_all(rt, gated, &mut workers.resolvers, &mut self.resolvers)?;
@@ -59,16 +59,16 @@ impl Team {
             commits,
         } = self;
         // All that waits is refused before the first thread is waited for.
-        for inbox in shared.commits() {
-            refuse_commits(rt, inbox.end(rt, Refusal::Closed), Refusal::Closed);
+        for proxy in shared.commits() {
+            end(rt, shared, proxy, Refusal::Closed);
         }
         for proxy in shared.begins() {
-            proxy.end(rt, Refusal::Closed);
+            end(rt, shared, proxy, Refusal::Closed);
         }
         join_all(rt, commits);
         join_all(rt, begins);
         for resolver in shared.resolvers() {
-            resolver.end(rt);
+            end(rt, shared, resolver, Refusal::Closed);
         }
         join_all(rt, resolvers);
         for log in shared.logs() {

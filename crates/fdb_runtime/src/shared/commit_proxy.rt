@@ -1,189 +1,109 @@
+//! A commit proxy that threads share.
+ghost use Rattle.std.specs.Prelude.{◌≡◌, ◌<◌, ⊤, None};
+ghost use Rattle.fdb_keys.specs.Answers.{Answers};
+ghost use Rattle.fdb_proxy.specs.Configs.{config_fault};
+
 use crate::gate::{Pass, Role};
 use crate::shared::Shared;
-use crate::shared::inbox::SharedInbox;
 use crate::shared::resolver::SharedResolver;
+use crate::shared::role::{Act, Lent, SharedRole, end, help};
 use crate::shared::slot::Slot;
 use crate::threads::channel::receive;
-use crate::threads::gated::Gated;
 use crate::threads::request::CommitRequest;
-use crate::threads::worker::Worker;
 use crossbeam_channel::Receiver;
+use fdb_book::Book;
 use fdb_keys::Refusal;
+use fdb_proxy::Config;
 use fdb_sections::{
     AckMessage, CommitMachine, CommitReply, DatabaseName, GrantMessage, Issued, LogMessage, Next,
     SentPart, VerdictMessage,
 };
+use std::alloc::Global;
 use std::sync::{Arc, Wait};
 
 // For how many requests in one batch the threads of resolvers are woken. To judge fewer takes less time than that.
-const MANY: u32 = 64;
+const MANY: usize = 64;
 
-/// Refuses all of them.
-pub(crate) fn refuse_commits<B: DatabaseName, R: Wait>(
-    rt: &R,
-    asked: Vec<CommitRequest<B>>,
-    why: Refusal,
-) {
-    for request in asked {
-        request.reply.put(rt, CommitReply::Refused(why));
-    }
-}
+/// A commit proxy that threads share.
+pub(crate) type SharedCommitProxy<B> = SharedRole<CommitRole<B>, CommitRequest<B>>;
 
-// How a commit proxy's thread goes on.
-#[derive(Clone, Copy)]
-enum Flow {
-    // With what the proxy wants next.
-    On,
-    // Nothing comes any more.
-    Ended,
-    // The proxy has failed.
-    Failed,
-}
-
-/// What a commit proxy's thread has: the proxy, beside the slots of who waits for its answers, and the channels for
-/// verdicts.
+/// A commit proxy, beside the slots of who waits for its answers, and the channels for verdicts.
 #[derive(Drop)]
-pub(crate) struct CommitWorker<B: DatabaseName> {
+pub(crate) struct CommitRole<B: DatabaseName> {
     number: u32,
     machine: CommitMachine<B, Arc<Slot<CommitReply<B>>>>,
+    // One channel for each resolver, in the order of their numbers.
     verdicts: Vec<Receiver<Option<VerdictMessage<B>>>>,
-    // How many requests were taken since the last report, about as many as the batch has.
-    taken: u32,
+    // How many requests came at once, about as many as the batch has.
+    taken: usize,
 }
 
-impl<B: DatabaseName + Send + Sync + 'static, G: Pass + Send + Sync + 'static> Worker<Gated<B, G>>
-    for CommitWorker<B> {
-    // Commits what it is asked to, batch by batch, until the inbox ends, or the proxy fails: then it says so to all
-    // others.
-    fn work<R: Wait>(&mut self, rt: &R, lent: &Gated<B, G>) {
-        let shared = &*lent.shared;
-        let Some(inbox) = shared.commits().get(self.number as usize) else {
-            return;
-        };
-        for _ in rt.forever() {
-            match self.act(rt, &*lent.gate, shared, inbox) {
-                Flow::On => {}
-                Flow::Ended => return,
-                Flow::Failed => return self.fail(rt, shared, inbox),
-            }
-        }
-    }
-}
-
-impl<B: DatabaseName> CommitWorker<B> {
-    /// Nobody has asked. It takes no memory.
+impl<B: DatabaseName> CommitRole<B> {
+    /// The commit proxy with the number, which nobody has asked, of so many resolvers, none of which is tied to it yet.
+    /// Refused only as `NoMemory`.
     pub(crate) fn new(
+        alloc: Global,
+        book: &Book<B>,
         number: u32,
-        machine: CommitMachine<B, Arc<Slot<CommitReply<B>>>>,
-        verdicts: Vec<Receiver<Option<VerdictMessage<B>>>>,
-    ) -> Self {
-        CommitWorker {
+        config: &Config,
+        resolvers: u32,
+    ) -> Result<Self, Refusal>
+        requires config { config.now ≡ B.config }
+        requires legal { config_fault B.config ≡ None }
+        requires number { number < config.now.proxies }
+        ensures { Answers result None (λ _. ⊤) }
+    {
+        let machine = CommitMachine::new(alloc, book, number, config, resolvers)?;
+        Ok(CommitRole {
             number,
             machine,
-            verdicts,
+            verdicts: Vec::new(alloc),
             taken: 0,
-        }
+        })
     }
 
-    // Does what the proxy wants next.
-    fn act<R: Wait, G: Pass>(
+    /// Ties the next resolver to the commit proxy, by the channel for its verdicts. Refused only as `NoMemory`.
+    pub(crate) fn tie(
         &mut self,
-        rt: &R,
-        gate: &G,
-        shared: &Shared<B>,
-        inbox: &SharedInbox<CommitRequest<B>>,
-    ) -> Flow {
-        let done = match self.machine.next() {
-            Next::Request => return self.wait_for_requests(rt, inbox),
-            Next::Seal => return self.enter(rt, gate, shared, inbox),
-            Next::Entry => Err(Refusal::Failed),
-            Next::Part => self.send_part(rt, gate, shared),
-            Next::Verdicts(resolver) => self.take_verdicts(rt, gate, shared, resolver),
-            Next::Message => self.push_message(rt, shared),
-            Next::Acknowledgement(_) => Err(Refusal::Failed),
-            Next::Report => self.report(rt, gate, shared),
-            Next::Reported => Err(Refusal::Failed),
-            Next::Answer => {
-                self.tell_all(rt);
-                Ok(())
-            }
-            Next::End => return Flow::Ended,
-        };
-        match done {
-            Ok(()) => Flow::On,
-            Err(_) => Flow::Failed,
-        }
-    }
-
-    // Waits for requests, and takes them.
-    fn wait_for_requests<R: Wait>(
-        &mut self,
-        rt: &R,
-        inbox: &SharedInbox<CommitRequest<B>>,
-    ) -> Flow {
-        let (asked, ended) = inbox.next(rt);
-        self.take_all(rt, asked, ended)
-    }
-
-    // Takes the requests, and refuses all who wait where the inbox has ended.
-    fn take_all<R: Wait>(
-        &mut self,
-        rt: &R,
-        asked: Vec<CommitRequest<B>>,
-        ended: Option<Refusal>,
-    ) -> Flow {
-        for request in asked {
-            self.take(rt, request);
-        }
-        let Some(why) = ended else {
-            return Flow::On;
-        };
-        if self.machine.refuse_all(why, None).is_err() {
-            return Flow::Failed;
-        }
-        self.tell_all(rt);
-        Flow::Ended
+        verdicts: Receiver<Option<VerdictMessage<B>>>,
+    ) -> Result<(), Refusal>
+        ensures { Answers result None (λ _. ⊤) }
+    {
+        self.verdicts.push(verdicts)?;
+        Ok(())
     }
 
     // Takes a request, or answers why it is refused.
     fn take<R: Wait>(&mut self, rt: &R, request: CommitRequest<B>) {
-        self.taken = self.taken.saturating_add(1);
         let CommitRequest { asked, reply } = request;
         if let Err(refused) = self.machine.submit(asked, reply) {
             refused.back.put(rt, CommitReply::Refused(refused.why));
         }
     }
 
-    // Takes what else has come, and has the sequencer give the batch its entry.
-    fn enter<R: Wait, G: Pass>(
-        &mut self,
-        rt: &R,
-        gate: &G,
-        shared: &Shared<B>,
-        inbox: &SharedInbox<CommitRequest<B>>,
-    ) -> Flow {
-        let (asked, ended) = inbox.take(rt);
-        match self.take_all(rt, asked, ended) {
-            Flow::On => {}
-            flow => return flow,
+    // Does what the proxy wants next, and tells whether that is more than requests.
+    fn step<R: Wait, G: Pass>(&mut self, rt: &R, lent: &Lent<'_, B, G>) -> Result<bool, Refusal> {
+        match self.machine.next() {
+            Next::Request => return Ok(false),
+            Next::Seal => self.issue(rt, lent)?,
+            Next::Part => self.send_part(rt, lent)?,
+            Next::Verdicts(resolver) => self.take_verdicts(rt, lent, resolver)?,
+            Next::Message => self.push_message(rt, lent.shared)?,
+            Next::Report => self.report(rt, lent)?,
+            Next::Answer => self.tell_all(rt),
+            Next::Entry | Next::Acknowledgement(_) | Next::Reported | Next::End => {
+                return Err(Refusal::Failed);
+            }
         }
-        match self.issue(rt, gate, shared) {
-            Ok(()) => Flow::On,
-            Err(_) => Flow::Failed,
-        }
+        Ok(true)
     }
 
     // Seals the batch, and has the sequencer give it its entry.
-    fn issue<R: Wait, G: Pass>(
-        &mut self,
-        rt: &R,
-        gate: &G,
-        shared: &Shared<B>,
-    ) -> Result<(), Refusal> {
+    fn issue<R: Wait, G: Pass>(&mut self, rt: &R, lent: &Lent<'_, B, G>) -> Result<(), Refusal> {
         let asked = self.machine.seal()?;
-        match shared.issue(rt, self.number, asked) {
-            Ok(issued) => self.issued(gate, issued),
-            Err(why) => self.give_up(rt, shared, why),
+        match lent.shared.issue(rt, self.number, asked) {
+            Ok(issued) => self.issued(lent.gate, issued),
+            Err(why) => self.give_up(rt, lent.shared, why),
         }
     }
 
@@ -224,8 +144,7 @@ impl<B: DatabaseName> CommitWorker<B> {
     fn send_part<R: Wait, G: Pass>(
         &mut self,
         rt: &R,
-        gate: &G,
-        shared: &Shared<B>,
+        lent: &Lent<'_, B, G>,
     ) -> Result<(), Refusal> {
         let Some(message) = self.machine.ready_part() else {
             return Err(Refusal::Failed);
@@ -235,9 +154,9 @@ impl<B: DatabaseName> CommitWorker<B> {
             proxy: self.number,
             message,
         };
-        let resolver = resolver_of(shared, number)?;
+        let resolver = resolver_of(lent.shared, number)?;
         resolver.put(rt, sent)?;
-        if number > 0 && (self.taken >= MANY || gate.may_wait()) {
+        if number > 0 && (self.taken >= MANY || lent.gate.may_wait()) {
             resolver.wake();
         }
         Ok(())
@@ -247,11 +166,10 @@ impl<B: DatabaseName> CommitWorker<B> {
     fn take_verdicts<R: Wait, G: Pass>(
         &mut self,
         rt: &R,
-        gate: &G,
-        shared: &Shared<B>,
+        lent: &Lent<'_, B, G>,
         resolver: u32,
     ) -> Result<(), Refusal> {
-        resolver_of(shared, resolver)?.serve(rt, gate);
+        help(rt, lent, resolver_of(lent.shared, resolver)?);
         let Some(from) = self.verdicts.get(resolver as usize) else {
             return Err(Refusal::Failed);
         };
@@ -272,19 +190,13 @@ impl<B: DatabaseName> CommitWorker<B> {
     }
 
     // Says that the batch is committed, first to the sequencer.
-    fn report<R: Wait, G: Pass>(
-        &mut self,
-        rt: &R,
-        gate: &G,
-        shared: &Shared<B>,
-    ) -> Result<(), Refusal> {
-        let reported = shared.report(rt, self.machine.logged_front()?)?;
+    fn report<R: Wait, G: Pass>(&mut self, rt: &R, lent: &Lent<'_, B, G>) -> Result<(), Refusal> {
+        let reported = lent.shared.report(rt, self.machine.logged_front()?)?;
         self.machine.reported(&reported)?;
-        self.taken = 0;
         drop(reported);
         self.tell_all(rt);
         if let Some(entry) = self.machine.entry() {
-            gate.after(Role::CommitProxy(self.number), entry);
+            lent.gate.after(Role::CommitProxy(self.number), entry);
         }
         Ok(())
     }
@@ -298,23 +210,47 @@ impl<B: DatabaseName> CommitWorker<B> {
             who.put(rt, reply);
         }
     }
+}
 
-    // The proxy has failed. Whoever is in flight doesn't get to know what became of it, and all others are refused. Not
-    // all may come to know of a batch that has an entry: resolvers and logs are told, who would wait for it for ever.
-    fn fail<R: Wait>(&mut self, rt: &R, shared: &Shared<B>, inbox: &SharedInbox<CommitRequest<B>>) {
+impl<B: DatabaseName> Act<B, CommitRequest<B>> for CommitRole<B> {
+    // Commits what it is asked to, batch by batch.
+    fn act<R: Wait, G: Pass>(
+        &mut self,
+        rt: &R,
+        lent: &Lent<'_, B, G>,
+        items: &mut Vec<CommitRequest<B>>,
+    ) -> Result<(), Refusal> {
+        self.taken = items.len();
+        for request in items.drain(..) {
+            self.take(rt, request);
+        }
+        for _ in rt.forever() {
+            if !self.step(rt, lent)? {
+                break;
+            }
+        }
+        Ok(())
+    }
+
+    // Whoever is in flight doesn't get to know what became of it, and all others are refused. Not all may come to know
+    // of a batch that has an entry: resolvers and logs are told, who would wait for it for ever.
+    fn fail<R: Wait>(&mut self, rt: &R, shared: &Shared<B>) {
         if self.machine.fail() {
             end_resolvers(rt, shared);
             end_logs(rt, shared);
         }
         self.tell_all(rt);
-        refuse_commits(rt, inbox.end(rt, Refusal::Failed), Refusal::Failed);
+    }
+
+    fn refuse<R: Wait>(rt: &R, _shared: &Shared<B>, item: CommitRequest<B>, why: Refusal) {
+        item.reply.put(rt, CommitReply::Refused(why));
     }
 }
 
 // No resolver takes anything any more.
 fn end_resolvers<B: DatabaseName, R: Wait>(rt: &R, shared: &Shared<B>) {
     for resolver in shared.resolvers() {
-        resolver.end(rt);
+        end(rt, shared, resolver, Refusal::Failed);
     }
 }
 
