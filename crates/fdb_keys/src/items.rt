@@ -93,6 +93,10 @@ impl<T> Items<T> {
     {
         // most lists that are filled so keep one item
         self.hold(1)?;
+        if start == end {
+            self.list.insert(start, item)?;
+            return Ok(());
+        }
         let _replaced = self.list.splice(start..end, Some(item))?;
         Ok(())
     }

@@ -4,7 +4,7 @@ ghost use Rattle.fdb_keys.specs.Texts.{is_bound};
 ghost use Rattle.fdb_interval.specs.Breakpoints.{AreRising};
 
 use crate::history::History;
-use bytes::Bytes;
+use fdb_interval::PointKey;
 use fdb_keys::KeyRange;
 use std::collections::BTreeMap;
 
@@ -18,7 +18,7 @@ pub(crate) fn know_bounds(range: &KeyRange)
 }
 
 /// The keys of a map rise.
-pub(crate) fn know_rising(breaks: &BTreeMap<Bytes, History>)
+pub(crate) fn know_rising(breaks: &BTreeMap<PointKey, History>)
     ensures { AreRising breaks.now.entries }
 {
     let _count = breaks.len();

@@ -19,7 +19,7 @@ use crate::deciding::decisive_moves;
 use crate::history::{Change, History};
 use crate::knowing::{know_bounds, know_rising};
 use crate::pieces::Pieces;
-use bytes::Bytes;
+use fdb_interval::{KeyedRange, PointKey};
 use fdb_keys::{Items, KeyRange, Refusal};
 use fdb_txn::Move;
 use std::alloc::{AllocError, Global};
@@ -75,12 +75,13 @@ fn split_bounds(alloc: Global, pieces: &mut Pieces, range: &KeyRange) -> Result<
     ensures there { OnOk result (HasBounds pieces.new range.now) }
 {
     know_bounds(range);
-    split_at(alloc, pieces, range.begin_text())?;
-    split_at(alloc, pieces, range.end_text())
+    let keyed = KeyedRange::new(range)?;
+    split_at(alloc, pieces, keyed.begin())?;
+    split_at(alloc, pieces, keyed.end())
 }
 
 // Makes a breakpoint at the point, if there is none, with the history of the piece that it lies in.
-fn split_at(alloc: Global, pieces: &mut Pieces, point: &Bytes) -> Result<(), AllocError>
+fn split_at(alloc: Global, pieces: &mut Pieces, point: &PointKey) -> Result<(), AllocError>
     requires { IsTrue (is_bound point.now) }
     ensures split { IsSplit pieces.old pieces.new }
     ensures there { OnOk result (has_break pieces.new point.now ≡ true) }
@@ -94,8 +95,8 @@ fn split_at(alloc: Global, pieces: &mut Pieces, point: &Bytes) -> Result<(), All
 }
 
 fn put_break(
-    breaks: &mut BTreeMap<Bytes, History>,
-    point: Bytes,
+    breaks: &mut BTreeMap<PointKey, History>,
+    point: PointKey,
     history: History,
 ) -> Result<(), AllocError>
     ensures ok { OnOk result (breaks.new.entries
@@ -134,10 +135,10 @@ fn change_history(alloc: Global, history: &History, change: Change) -> Result<Hi
 // the ranges share no key, each breakpoint is made once.
 fn list_fresh(
     alloc: Global,
-    breaks: &BTreeMap<Bytes, History>,
+    breaks: &BTreeMap<PointKey, History>,
     version: u64,
     moves: &[Move],
-) -> Result<Items<(Bytes, History)>, AllocError>
+) -> Result<Items<(PointKey, History)>, AllocError>
     ensures { IfOk result (λ fresh. fresh ≡ fresh_of version moves.now breaks.now.entries) }
 {
     let mut fresh = Items::new(alloc);
@@ -150,17 +151,17 @@ fn list_fresh(
 // Adds the breakpoints in the move's range, each with the move's change.
 fn push_fresh(
     alloc: Global,
-    breaks: &BTreeMap<Bytes, History>,
+    breaks: &BTreeMap<PointKey, History>,
     version: u64,
     one_move: &Move,
-    fresh: &mut Items<(Bytes, History)>,
+    fresh: &mut Items<(PointKey, History)>,
 ) -> Result<(), AllocError>
     ensures { OnOk result (fresh.new ≡ fresh.old ++ fresh_by version one_move.now breaks.now.entries) }
 {
     let owner = one_move.to;
-    let begin = Bound::Included(one_move.range.begin_text());
-    let end = Bound::Excluded(one_move.range.end_text());
-    for (point, history) in breaks.range((begin, end)) {
+    let keyed = KeyedRange::new(&one_move.range)?;
+    let bounds = (Bound::Included(keyed.begin()), Bound::Excluded(keyed.end()));
+    for (point, history) in breaks.range(bounds) {
         push_changed(alloc, point, history, Change { version, owner }, fresh)?;
     }
     Ok(())
@@ -169,10 +170,10 @@ fn push_fresh(
 // Adds the breakpoint with the change.
 fn push_changed(
     alloc: Global,
-    point: &Bytes,
+    point: &PointKey,
     history: &History,
     change: Change,
-    fresh: &mut Items<(Bytes, History)>,
+    fresh: &mut Items<(PointKey, History)>,
 ) -> Result<(), AllocError>
     ensures { OnOk result (fresh.new
         ≡ fresh.old ++ (point.now, changed change.version change.owner history.now) ∷ []) }
@@ -184,7 +185,7 @@ fn push_changed(
 }
 
 // Puts each of the histories in the place of that at its point. It takes no memory.
-fn put_all(breaks: &mut BTreeMap<Bytes, History>, fresh: Items<(Bytes, History)>)
+fn put_all(breaks: &mut BTreeMap<PointKey, History>, fresh: Items<(PointKey, History)>)
     ensures value { breaks.new.entries ≡ with_fresh breaks.old.entries fresh }
     ensures rising { AreRising breaks.old.entries }
     ensures rising_after { AreRising breaks.new.entries }
@@ -196,7 +197,7 @@ fn put_all(breaks: &mut BTreeMap<Bytes, History>, fresh: Items<(Bytes, History)>
     know_rising(breaks);
 }
 
-fn put(breaks: &mut BTreeMap<Bytes, History>, point: &Bytes, history: History)
+fn put(breaks: &mut BTreeMap<PointKey, History>, point: &PointKey, history: History)
     ensures { breaks.new.entries
         ≡ set_value (is_at (slice_cmp nat_cmp point.now)) breaks.old.entries history }
 {

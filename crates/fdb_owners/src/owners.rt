@@ -4,7 +4,7 @@ use crate::parts::{Owned, Span, parts_of};
 use crate::pieces::{Pieces, first_pieces};
 use crate::spreading::spread;
 use crate::sweeping::sweep;
-use bytes::Bytes;
+use fdb_interval::PointKey;
 use fdb_keys::{Items, Key, KeyRange, RangeSet, Refusal};
 use fdb_txn::{Move, RESOLVER_LIMIT, Splits};
 use std::alloc::Global;
@@ -30,11 +30,12 @@ pub struct Owners {
     pieces: Pieces,
     last: u64,
     floor: u64,
-    // How many breakpoints were touched since the last expiry, each once a version, the one that it saw last, and how
-    // many rounds are left.
+    // How many breakpoints were touched since the last expiry, each once a version, the one that it saw last, how many
+    // rounds are left, and the first version that they are for: before that expires there is nothing to take out.
     touched: u64,
-    cursor: Option<Bytes>,
+    cursor: Option<PointKey>,
     rounds: u32,
+    due: u64,
 }
 
 impl Model for Owners {
@@ -88,6 +89,7 @@ impl Owners {
             touched: 0,
             cursor: None,
             rounds: 0,
+            due: 0,
         })
     }
 
@@ -109,26 +111,27 @@ impl Owners {
         let touched = learn_moves(self.alloc, &mut self.pieces, version, moves)?;
         self.last = version;
         self.touched = self.touched.saturating_add(touched);
+        self.due = first_due(self.rounds, self.due, version);
         self.rounds = ROUNDS;
         Ok(())
     }
 
-    /// The number of the resolver that owns the key at the last version learnt, in O(log n) for the n breakpoints. It
-    /// takes no memory.
+    /// The number of the resolver that owns the key at the last version learnt, in O(log n) for the n breakpoints, but
+    /// in O(n) where the key's text has as many owners as can be counted. It takes no memory.
     pub fn owner(&self, key: &Key) -> u32
         ensures value { result ≡ owner_at self.now key.now self.now.last }
         ensures within { result < resolvers_of self.now }
     {
-        self.pieces.history_at(key.text()).owner_now()
+        self.pieces.history_of(key).owner_now()
     }
 
     /// The number of versions learnt, above the greatest one that expired, at which the key got another owner than it
-    /// had before. It takes O(log n) for the n breakpoints and O(m) for the m changes of the key's piece that are kept,
-    /// and no memory.
+    /// had before. It takes O(log n) for the n breakpoints, but O(n) where the key's text has as many owners as can be
+    /// counted, and O(m) for the m changes of the key's piece that are kept. It takes no memory.
     pub fn changes(&self, key: &Key) -> usize
         ensures { result ≡ changes_of self.now key.now }
     {
-        self.pieces.history_at(key.text()).changes_above(self.floor)
+        self.pieces.history_of(key).changes_above(self.floor)
     }
 
     /// Each resolver that owns keys of the range at the last version learnt, and so from that version on, with those
@@ -213,12 +216,12 @@ impl Owners {
     /// Says that no reader will ask for a span that begins below the version. What is answered of the last version
     /// learnt, and of spans that begin at the version or above it, stays. It takes O(m log n) for the n breakpoints and
     /// the m that were touched since the last expiry, each counted once for each version that was learnt there, and
-    /// O(1) once all that was learnt has expired and was looked at. It takes no memory.
+    /// O(1) before anything that was learnt has expired, and once all that was has been looked at. It takes no memory.
     pub fn expire(&mut self, version: u64)
         ensures { HasExpired self.old version self.new }
     {
         self.floor = self.floor.max(version);
-        let looks = looks_for(self.touched, self.rounds);
+        let looks = looks_for(self.touched, self.rounds, self.due <= self.floor);
         sweep(&mut self.pieces, &mut self.cursor, self.floor, looks);
         let is_at_end = self.cursor.is_none();
         self.touched = 0;
@@ -248,9 +251,14 @@ impl Owners {
     }
 }
 
+// The first version that the rounds are for, once one more version was learnt.
+fn first_due(rounds: u32, due: u64, version: u64) -> u64 {
+    if rounds == 0 { version } else { due }
+}
+
 // How many breakpoints an expiry looks at.
-fn looks_for(touched: u64, rounds: u32) -> u64 {
-    if rounds == 0 {
+fn looks_for(touched: u64, rounds: u32, is_due: bool) -> u64 {
+    if rounds == 0 || !is_due {
         return 0;
     }
     touched

@@ -18,7 +18,7 @@ ghost use Rattle.fdb_owners.specs.declared.parts.Owned.{Owned};
 use crate::history::{Change, History, split_by};
 use crate::knowing::know_bounds;
 use crate::pieces::Pieces;
-use bytes::Bytes;
+use fdb_interval::{KeyedRange, PointKey};
 use fdb_keys::{Items, KeyRange, RangeSet, Refusal};
 use std::alloc::Global;
 use std::ops::Bound;
@@ -167,13 +167,13 @@ fn add_owners(
 }
 
 // The keys from the begin up to the end.
-fn piece_between(alloc: Global, begin: &Bytes, end: &Bytes) -> Result<KeyRange, Refusal>
+fn piece_between(alloc: Global, begin: &PointKey, end: &PointKey) -> Result<KeyRange, Refusal>
     requires begin { IsTrue (is_bound begin.now) }
     requires end { IsTrue (is_bound end.now) }
     requires order { IsTrue (point_lt begin.now end.now) }
     ensures { Answers result None (λ piece. piece ≡ record { begin = begin.now; end = end.now }) }
 {
-    KeyRange::new(alloc, begin.as_slice(), end.as_slice())
+    KeyRange::new(alloc, begin.text().as_slice(), end.text().as_slice())
 }
 
 // Adds the keys from the begin up to the end to the parts of those who owned them.
@@ -182,8 +182,8 @@ fn add_piece(
     parts: &mut Vec<Owned>,
     history: &History,
     span: Span,
-    begin: &Bytes,
-    end: &Bytes,
+    begin: &PointKey,
+    end: &PointKey,
 ) -> Result<(), Refusal>
     requires rising { AreRisingParts parts.old.items }
     requires falling { AreFalling history.now.changes }
@@ -198,9 +198,14 @@ fn add_piece(
     add_owners(alloc, parts, history, span, &piece)
 }
 
-// The history throughout the range, which has a point, if no breakpoint is inside it.
-fn history_throughout<'a>(pieces: &'a Pieces, range: &KeyRange) -> Option<&'a History>
-    requires { IsTrue (point_lt range.now.begin range.now.end) }
+// The history throughout the range, which has a point and this end, if no breakpoint is inside it.
+fn history_throughout<'a>(
+    pieces: &'a Pieces,
+    range: &KeyRange,
+    end: &PointKey,
+) -> Option<&'a History>
+    requires some { IsTrue (point_lt range.now.begin range.now.end) }
+    requires end { end.now ≡ range.now.end }
     ensures history { IfSome result (λ found. found.now ≡ history_at pieces.now range.now.begin) }
     ensures inside { IfSome result (λ _. breaks_inside range.now pieces.now.breaks.entries ≡ []) }
     ensures rising { AreRising pieces.now.breaks.entries }
@@ -208,7 +213,7 @@ fn history_throughout<'a>(pieces: &'a Pieces, range: &KeyRange) -> Option<&'a Hi
     ensures end { IsTrue (is_bound range.now.end) }
 {
     know_bounds(range);
-    pieces.history_between(range.begin_text(), range.end_text())
+    pieces.history_between(range.begin_text(), end)
 }
 
 // Adds the keys of the range, which has a point, from breakpoint to breakpoint to the parts of those who owned them.
@@ -227,18 +232,16 @@ fn add_pieces(
         (λ _. parts.new.items ≡ with_pieces (history_at pieces.now range.now.begin) span.since span.through
         range.now.begin (breaks_inside range.now pieces.now.breaks.entries) range.now.end parts.old.items) }
 {
-    let mut history = pieces.history_at(range.begin_text());
-    let mut begin = range.begin_text();
-    let bounds = (
-        Bound::Excluded(range.begin_text()),
-        Bound::Excluded(range.end_text()),
-    );
+    let keyed = KeyedRange::new(range)?;
+    let mut history = pieces.history_at(keyed.begin());
+    let mut begin = keyed.begin();
+    let bounds = (Bound::Excluded(keyed.begin()), Bound::Excluded(keyed.end()));
     for (point, next) in pieces.breaks.range(bounds) {
         add_piece(alloc, parts, history, span, begin, point)?;
         history = next;
         begin = point;
     }
-    add_piece(alloc, parts, history, span, begin, range.end_text())
+    add_piece(alloc, parts, history, span, begin, keyed.end())
 }
 
 // Adds the keys of the range, which has a point, to the parts of those who owned them. Nothing is copied where no
@@ -258,7 +261,8 @@ fn add_along(
         → ArePartsOf resolvers (λ i x. held i x || (in_range range.now x
         && owned_from (history_at pieces.now x) i span.since span.through)) parts.new.items) }
 {
-    match history_throughout(pieces, range) {
+    let end = PointKey::new(range.end_text())?;
+    match history_throughout(pieces, range, &end) {
         Some(history) => add_owners(alloc, parts, history, span, range),
         None => add_pieces(alloc, parts, pieces, range, span),
     }

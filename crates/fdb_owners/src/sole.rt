@@ -1,5 +1,5 @@
 // One owner of all keys of a set, where one look finds it.
-ghost use Rattle.std.specs.Prelude.{◌≡◌, ◌≢◌, ◌<◌, ◌==◌, ℕ, [], true, IfSome, IfNone};
+ghost use Rattle.std.specs.Prelude.{◌≡◌, ◌≢◌, ◌<◌, ◌==◌, ℕ, [], true, IfOk, IfSome, IfNone};
 ghost use Rattle.fdb_keys.specs.Points.{Point};
 ghost use Rattle.fdb_keys.specs.Ranges.{in_set};
 ghost use Rattle.fdb_txn.specs.rules.Admission.{has_points};
@@ -11,7 +11,9 @@ ghost use Rattle.fdb_owners.specs.Spreads.{HasSole};
 use crate::history::History;
 use crate::parts::{Span, changes_within};
 use crate::pieces::Pieces;
+use fdb_interval::PointKey;
 use fdb_keys::RangeSet;
+use std::alloc::AllocError;
 
 // The owner at all versions of the span, if nothing changed in it.
 fn owner_throughout(history: &History, span: Span) -> Option<u32>
@@ -29,19 +31,28 @@ fn owner_throughout(history: &History, span: Span) -> Option<u32>
 
 /// The resolver that alone owned all keys of the set at each version of the span, if no breakpoint lies between the
 /// set's first begin and its last end, and nothing changed there in the span. There is none only where one of the two
-/// isn't so, or the set is empty. It takes O(log n) comparisons for n breakpoints, and no memory.
-pub(crate) fn sole_owner(pieces: &Pieces, set: &RangeSet, span: Span) -> Option<u32>
+/// isn't so, or the set is empty. It fails only where the text of that end has as many owners as can be
+/// counted. It takes O(log n) comparisons for n breakpoints, and no memory.
+pub(crate) fn sole_owner(
+    pieces: &Pieces,
+    set: &RangeSet,
+    span: Span,
+) -> Result<Option<u32>, AllocError>
     requires { HaveHistories pieces.now }
-    ensures some { IfSome result (λ _. has_points set.now ≡ true) }
-    ensures within { IfSome result (λ sole. (resolvers last : ℕ)
-        → IsPieces resolvers last pieces.now → sole < resolvers) }
-    ensures alone { IfSome result (λ sole. (i : ℕ) (x : Point) → in_set set.now x ≡ true
-        → owned_from (history_at pieces.now x) i span.since span.through ≡ (sole == i)) }
-    ensures none { IfNone result (HasSole pieces.now set.now span.since span.through → ⊥) }
+    ensures some { IfOk result (λ found. IfSome found (λ _. has_points set.now ≡ true)) }
+    ensures within { IfOk result (λ found. IfSome found (λ sole. (resolvers last : ℕ)
+        → IsPieces resolvers last pieces.now → sole < resolvers)) }
+    ensures alone { IfOk result (λ found. IfSome found (λ sole. (i : ℕ) (x : Point) → in_set set.now x ≡ true
+        → owned_from (history_at pieces.now x) i span.since span.through ≡ (sole == i))) }
+    ensures none { IfOk result (λ found. IfNone found (HasSole pieces.now set.now span.since span.through → ⊥)) }
 {
     let ranges = set.iter().as_slice();
-    let first = ranges.first()?;
-    let last = ranges.last()?;
-    let history = pieces.history_between(first.begin_text(), last.end_text())?;
-    owner_throughout(history, span)
+    let (Some(first), Some(last)) = (ranges.first(), ranges.last()) else {
+        return Ok(None);
+    };
+    let end = PointKey::new(last.end_text())?;
+    match pieces.history_between(first.begin_text(), &end) {
+        Some(history) => Ok(owner_throughout(history, span)),
+        None => Ok(None),
+    }
 }

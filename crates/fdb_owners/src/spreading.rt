@@ -39,7 +39,7 @@ pub(crate) fn spread(
     ensures held { Answers result None (λ parts. (i : ℕ) (x : Point) → is_held parts i x
         ≡ (in_set set.now x && owned_from (history_at pieces.now x) i span.since span.through)) }
 {
-    if let Some(resolver) = sole_owner(pieces, set, span) {
+    if let Some(resolver) = sole_owner(pieces, set, span)? {
         let parts = sole_part(alloc, resolver, set)?;
         return Ok(parts);
     }

@@ -3,13 +3,13 @@ ghost use Rattle.fdb_interval.specs.Breakpoints.{AreRising};
 ghost use Rattle.fdb_owners.specs.Pieces.{AgreeFrom, HaveHistories, KeepHistories};
 
 use crate::pieces::Pieces;
-use bytes::Bytes;
+use fdb_interval::PointKey;
 use std::ops::Bound;
 
 /// Goes on over so many breakpoints from behind the cursor: cuts their histories at the floor, and takes those out
 /// where the history is the one before. The cursor then stands at the last one seen, and at none once no breakpoint is
 /// left. It takes O(log n) for each of them, of n breakpoints.
-pub(crate) fn sweep(pieces: &mut Pieces, cursor: &mut Option<Bytes>, floor: u64, looks: u64)
+pub(crate) fn sweep(pieces: &mut Pieces, cursor: &mut Option<PointKey>, floor: u64, looks: u64)
     requires { HaveHistories pieces.old }
     ensures agree { AgreeFrom floor pieces.old pieces.new }
     ensures kept { KeepHistories pieces.old pieces.new }
@@ -25,7 +25,7 @@ pub(crate) fn sweep(pieces: &mut Pieces, cursor: &mut Option<Bytes>, floor: u64,
 }
 
 // The point of the next breakpoint, if there is one, and memory for its copy.
-fn point_behind(pieces: &Pieces, cursor: Option<&Bytes>) -> Option<Bytes> {
+fn point_behind(pieces: &Pieces, cursor: Option<&PointKey>) -> Option<PointKey> {
     let next = match cursor {
         Some(cursor) => pieces
             .breaks
@@ -40,7 +40,7 @@ fn point_behind(pieces: &Pieces, cursor: Option<&Bytes>) -> Option<Bytes> {
 }
 
 // Takes the breakpoint at the point out where the history is the one before, else cuts its history.
-fn look_at(pieces: &mut Pieces, point: &Bytes, floor: u64)
+fn look_at(pieces: &mut Pieces, point: &PointKey, floor: u64)
     requires { HaveHistories pieces.old }
     ensures agree { AgreeFrom floor pieces.old pieces.new }
     ensures kept { KeepHistories pieces.old pieces.new }

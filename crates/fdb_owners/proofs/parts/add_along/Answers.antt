@@ -33,8 +33,8 @@ returns-in-Some c =
     are)
     c.add_owners.ensures
 
-pub returns-in-None : goal.returns-in-None
-returns-in-None c =
+pub returns : goal.returns
+returns c =
     answers-also c.add_pieces.result None _ _
     (λ given added n last held known are.
     parts-walked n last c.args.span.since c.args.span.through c.args.pieces.now c.args.range.now held

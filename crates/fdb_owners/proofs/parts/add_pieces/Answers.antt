@@ -4,6 +4,7 @@ use Rattle.std.specs.Cmp.Lexicographic.{slice_cmp}
 use Rattle.std.specs.Ordering.{nat_cmp}
 use Rattle.std.specs.declared.ops.Bound.TheVariants.{Excluded}
 use Rattle.fdb_keys.specs.Points.{Point}
+use Rattle.fdb_keys.specs.Ranges.{Range}
 use Rattle.fdb_keys.proofs.Exports.{cmp_less}
 use Rattle.fdb_interval.specs.Breakpoints.{Breaks, breaks_inside}
 use Rattle.fdb_owners.specs.declared.history.History.{History}
@@ -16,7 +17,7 @@ use Rattle.fdb_owners.proofs.parts.add_pieces.Goals as goal
 
 pub range-point-items-requires : goal.range-point-items-requires
 range-point-items-requires c =
-    rw (c.begin_text-2.ensures, c.end_text.ensures.value)
+    rw (c.begin-2.ensures, c.end.ensures.value, c.in_ok-keyed.ensures)
     (cmp_less c.args.range.now.begin c.args.range.now.end c.requires.some)
 
 -- what the walk goes over, by the texts of the bounds
@@ -29,19 +30,25 @@ by_texts es found begin end begin_text end_text begins ends is =
     ∙ ap (λ (x : Point). entries_between (slice_cmp nat_cmp) (Excluded begin) (Excluded x) es) ends
 
 pub loop-point-init : goal.loop-point-init
-loop-point-init c = record {
-  rising = c.requires.rising;
-  way = way-same _ c.history_at-history.result.now _ c.begin_text-begin.result.now _ c.into_iter-point-iterator.result
-      c.args.range.now.end
-      (c.history_at-history.ensures.value ∙ ap (λ (x : Point). history_at c.args.pieces.now x) c.begin_text.ensures)
-      c.begin_text-begin.ensures
-      (by_texts c.args.pieces.now.breaks.entries c.into_iter-point-iterator.result c.args.range.now.begin
-      c.args.range.now.end c.begin_text-2.result.now c.end_text.result.now c.begin_text-2.ensures
-      c.end_text.ensures.value
-      (c.into_iter-point-iterator.ensures.into_iter_gives ∙ c.range-point-items.ensures.between tt))
-      c.requires.way;
-  same = refl;
-}
+loop-point-init c =
+    let begin_is : c.in_ok-keyed.keyed.begin ≡ c.args.range.now.begin =
+    ap (λ (range : Range). range.begin) c.in_ok-keyed.ensures in
+    let end_is : c.in_ok-keyed.keyed.end ≡ c.args.range.now.end =
+    ap (λ (range : Range). range.end) c.in_ok-keyed.ensures in
+    record {
+      rising = c.requires.rising;
+      way = way-same _ c.history_at-history.result.now _ c.begin-begin.result.now _ c.into_iter-point-iterator.result
+          c.args.range.now.end
+          (c.history_at-history.ensures.value
+          ∙ ap (λ (x : Point). history_at c.args.pieces.now x) (c.begin.ensures ∙ begin_is))
+          (c.begin-begin.ensures ∙ begin_is)
+          (by_texts c.args.pieces.now.breaks.entries c.into_iter-point-iterator.result c.args.range.now.begin
+          c.args.range.now.end c.begin-2.result.now c.end.result.now (c.begin-2.ensures ∙ begin_is)
+          (c.end.ensures.value ∙ end_is)
+          (c.into_iter-point-iterator.ensures.into_iter_gives ∙ c.range-point-items.ensures.between tt))
+          c.requires.way;
+      same = refl;
+    }
 
 pub add_piece-requires-clause-end : goal.add_piece-requires-clause-end
 add_piece-requires-clause-end c =

@@ -1,4 +1,4 @@
-use Rattle.std.proofs.Common.{◌≡◌, subst, true, None, Option, Result}
+use Rattle.std.proofs.Common.{◌≡◌, ◌∙◌, subst, true, None, Option, Result}
 use Rattle.fdb_keys.specs.Answers.{Answers}
 use Rattle.fdb_keys.specs.declared.refusal.Refusal.{Refusal}
 use Rattle.fdb_keys.specs.Points.{Point, point_lt}
@@ -24,4 +24,5 @@ made result begin end begin_text end_text from until some begins ends given =
 pub returns : goal.returns
 returns c =
     made c.new.result c.args.begin.now c.args.end.now c.as_slice.result.now c.as_slice-2.result.now c.requires.begin
-    c.requires.end c.requires.order c.as_slice.ensures c.as_slice-2.ensures c.new.ensures
+    c.requires.end c.requires.order (c.as_slice.ensures ∙ c.text.ensures.value)
+    (c.as_slice-2.ensures ∙ c.text-2.ensures.value) c.new.ensures

@@ -20,7 +20,7 @@ loop-place-preserved c =
     let more : take (place + 1) splits ≡ take place splits ++ split ∷ [] =
     take_more splits place split (omega arith)
     ∙ ap (λ (x : Point). take place splits ++ x ∷ []) (sym c.index-splits-place.is) in
-    let key_is : c.in_ok-clone.field-0 ≡ split = search rules in
+    let key_is : c.in_ok-at.field-0 ≡ split = search rules in
     let count : length (take place splits) ≡ place = length-take-le place splits (omega arith) in
     let number_is : c.new-history.result ≡ alone (place + 1) = search rules in (
       c.in_ok-insert.ensures.entries
@@ -29,7 +29,7 @@ loop-place-preserved c =
           (omega (arith, count)),
       subst (AllByRecursion (λ (x : Point). is_bound x ≡ true)) (sym more)
           (all-append (λ (x : Point). is_bound x ≡ true) (take place splits) (split ∷ []) c.loop-place.invariant.1
-          (is_bound-key split c.text.ensures.legal, tt)),
+          (is_bound-key split c.at.ensures.legal, tt)),
       rising_from_sorted _ c.insert.ensures.ordered,
     )
 

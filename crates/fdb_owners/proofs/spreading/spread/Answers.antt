@@ -1,7 +1,9 @@
-use Rattle.std.proofs.Common.{◌≡◌, ◌∙◌, sym, ap, subst, ◌++◌, List, rules}
+use Rattle.std.proofs.Common.{◌≡◌, ◌∙◌, sym, ap, subst, ◌++◌, ◌==◌, ◌<◌, true, ℕ, List, Option, IfSome, rules}
+use Rattle.fdb_keys.specs.Ranges.{in_set}
+use Rattle.fdb_txn.specs.rules.Admission.{has_points}
 use Rattle.fdb_owners.specs.declared.parts.Owned.{Owned}
 use Rattle.fdb_owners.specs.Parts.{owned_from}
-use Rattle.fdb_owners.specs.Pieces.{history_at}
+use Rattle.fdb_owners.specs.Pieces.{IsPieces, history_at}
 use Rattle.fdb_owners.specs.Spreads.{is_held, AreOwned}
 use Rattle.fdb_owners.proofs.SpreadLemmas.{spread-next, owned-next, sole-owned, sole-held}
 use Rattle.fdb_owners.proofs.spreading.spread.Goals as goal
@@ -28,11 +30,20 @@ returns-clause-owned c n last known =
 
 pub returns-in-Some-clause-owned : goal.returns-in-Some-clause-owned
 returns-in-Some-clause-owned c n last known =
-    subst (AreOwned n) (sym c.in_ok-parts.ensures)
-    (sole-owned n c.in-Some.resolver c.args.set.now (c.in-Some.ensures.within n last known) c.in-Some.ensures.some)
+    let resolver = c.in-Some.resolver in
+    let some : has_points c.args.set.now ≡ true = search rules in
+    let within : resolver < n =
+    subst
+    (λ (found : Option ℕ). IfSome found (λ sole. (resolvers last : ℕ)
+    → IsPieces resolvers last c.args.pieces.now → sole < resolvers))
+    c.in-Some.is c.in_ok-resolver.ensures.within n last known in
+    subst (AreOwned n) (sym c.in_ok-parts.ensures) (sole-owned n resolver c.args.set.now within some)
 
 pub returns-in-Some-clause-held : goal.returns-in-Some-clause-held
 returns-in-Some-clause-held c i x =
+    let alone : in_set c.args.set.now x ≡ true
+    → owned_from (history_at c.args.pieces.now x) i c.args.span.since c.args.span.through ≡ (c.in-Some.resolver == i) =
+    search rules in
     ap (λ (parts : List Owned). is_held parts i x) c.in_ok-parts.ensures
     ∙ sole-held c.in-Some.resolver i c.args.set.now x
-    (owned_from (history_at c.args.pieces.now x) i c.args.span.since c.args.span.through) (c.in-Some.ensures.alone i x)
+    (owned_from (history_at c.args.pieces.now x) i c.args.span.since c.args.span.through) alone
