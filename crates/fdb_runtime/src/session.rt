@@ -193,9 +193,7 @@ impl<B: DatabaseName> Session<B> {
             shared: &*self.shared,
             gate: &NoGate,
         };
-        if let Err(refused) = ask(rt, &lent, proxy, request) {
-            return Err(Refusal::from(refused));
-        }
+        ask(rt, &lent, proxy, request)?;
         match self.slots.next_grant(rt) {
             Some(GrantReply::Granted(granted)) => Ok(granted),
             Some(GrantReply::Refused(why)) => Err(why),

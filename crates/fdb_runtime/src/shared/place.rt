@@ -1,5 +1,5 @@
 // Where a role is that threads share, and what waits for it.
-ghost use Rattle.std.specs.Prelude.{◌≡◌, ◌⊎◌, ◌&&◌, ◌||◌, ◌==◌, [], length, Some, None, IfSome, IfNone};
+ghost use Rattle.std.specs.Prelude.{◌≡◌, ◌⊎◌, ◌&&◌, ◌||◌, ◌==◌, not, [], length, Some, None, IfSome, IfNone};
 ghost use Rattle.std.specs.Option.{is_none};
 
 use fdb_sections::Inbox;
@@ -7,16 +7,21 @@ use std::mem;
 
 /// A role, with what it is to do.
 #[derive(Drop)]
-pub(crate) struct Busy<W, T> {
+pub(crate) struct Loaded<W, T> {
     pub(crate) role: W,
     pub(crate) items: Vec<T>,
+}
+
+/// A role that a thread works with. It can't be let go of, so nobody forgets to give it back.
+pub(crate) struct Busy<W, T> {
+    pub(crate) loaded: Loaded<W, T>,
 }
 
 /// What waits for a role, and the role, unless a thread works with it.
 #[derive(Drop)]
 pub(crate) struct Place<W, T> {
     pub(crate) inbox: Inbox<T>,
-    pub(crate) resting: Option<Busy<W, T>>,
+    pub(crate) resting: Option<Loaded<W, T>>,
 }
 
 impl<W: Drop, T: Drop> Place<W, T> {
@@ -30,9 +35,9 @@ impl<W: Drop, T: Drop> Place<W, T> {
 
     /// Gives the role to who works with it, with all that waits, where it rests and something waits.
     pub(crate) fn leave(&mut self) -> Option<Busy<W, T>>
-        ensures lent { IfSome result (λ busy. (busy.items.items ≡ self.old.inbox.waiting.items)
+        ensures lent { IfSome result (λ busy. (busy.loaded.items.items ≡ self.old.inbox.waiting.items)
             × (self.new.resting ≡ None)) }
-        ensures role { IfSome result (λ busy. IfSome self.old.resting (λ rested. (busy.role ≡ rested.role)
+        ensures role { IfSome result (λ busy. IfSome self.old.resting (λ rested. (busy.loaded.role ≡ rested.role)
             × (self.new.inbox.waiting.items ≡ rested.items.items))) }
         ensures stays { IfNone result ((self.new ≡ self.old)
             × ((self.old.inbox.waiting.items ≡ []) ⊎ (self.old.resting ≡ None))) }
@@ -41,36 +46,48 @@ impl<W: Drop, T: Drop> Place<W, T> {
         if self.inbox.waiting.is_empty() {
             return None;
         }
-        let busy = self.resting.take()?;
-        Some(self.with_waiting(busy))
+        let rested = self.resting.take()?;
+        Some(self.with_waiting(rested))
     }
 
     /// Takes the role back, unless something waits: then it is given back with that.
     pub(crate) fn come_back(&mut self, busy: Busy<W, T>) -> Option<Busy<W, T>>
         ensures rests { IfNone result ((self.old.inbox.waiting.items ≡ [])
-            × (self.new ≡ record self.old { resting = Some busy })) }
-        ensures goes_on { IfSome result (λ it. (it.role ≡ busy.role)
-            × (it.items.items ≡ self.old.inbox.waiting.items)
-            × (self.new.inbox.waiting.items ≡ busy.items.items)
+            × (self.new ≡ record self.old { resting = Some busy.loaded })) }
+        ensures goes_on { IfSome result (λ it. (it.loaded.role ≡ busy.loaded.role)
+            × (it.loaded.items.items ≡ self.old.inbox.waiting.items)
+            × (self.new.inbox.waiting.items ≡ busy.loaded.items.items)
             × (self.new.resting ≡ self.old.resting)) }
         ensures ended { self.new.inbox.ended ≡ self.old.inbox.ended }
     {
+        let Busy { loaded } = busy;
         if self.inbox.waiting.is_empty() {
-            self.resting = Some(busy);
+            self.resting = Some(loaded);
             return None;
         }
-        Some(self.with_waiting(busy))
+        Some(self.with_waiting(loaded))
+    }
+
+    /// Takes the role back, and tells whether its own thread has something to do.
+    pub(crate) fn rest(&mut self, busy: Busy<W, T>) -> bool
+        ensures rests { self.new ≡ record self.old { resting = Some busy.loaded } }
+        ensures tells { result
+            ≡ not ((length self.old.inbox.waiting.items == 0) && is_none self.old.inbox.ended) }
+    {
+        let Busy { loaded } = busy;
+        self.resting = Some(loaded);
+        !self.is_quiet()
     }
 
     // The role with all that waits. What it was to do waits, of which there is none where it did all.
-    fn with_waiting(&mut self, mut busy: Busy<W, T>) -> Busy<W, T>
-        ensures role { result.role ≡ busy.role }
-        ensures items { result.items.items ≡ self.old.inbox.waiting.items }
-        ensures waiting { self.new.inbox.waiting.items ≡ busy.items.items }
+    fn with_waiting(&mut self, mut loaded: Loaded<W, T>) -> Busy<W, T>
+        ensures role { result.loaded.role ≡ loaded.role }
+        ensures items { result.loaded.items.items ≡ self.old.inbox.waiting.items }
+        ensures waiting { self.new.inbox.waiting.items ≡ loaded.items.items }
         ensures ended { self.new.inbox.ended ≡ self.old.inbox.ended }
         ensures resting { self.new.resting ≡ self.old.resting }
     {
-        mem::swap(&mut busy.items, &mut self.inbox.waiting);
-        busy
+        mem::swap(&mut loaded.items, &mut self.inbox.waiting);
+        Busy { loaded }
     }
 }

@@ -1,9 +1,9 @@
 // A role that threads share: its own thread works with it, or one that waits for what it does.
-ghost use Rattle.std.specs.Prelude.{◌≡◌, IfErr};
+ghost use Rattle.std.specs.Prelude.{◌≡◌, [], IfErr, OnOk};
 
 use crate::gate::Pass;
 use crate::shared::Shared;
-use crate::shared::place::{Busy, Place};
+use crate::shared::place::{Busy, Loaded, Place};
 use crate::shared::waiting::{take_lock, wait_while};
 use fdb_keys::{Refusal, Refused};
 use fdb_sections::{DatabaseName, Inbox};
@@ -29,7 +29,8 @@ pub(crate) trait Act<B: DatabaseName, T>: Drop {
         rt: &R,
         lent: &Lent<'_, B, G>,
         items: &mut Vec<T>,
-    ) -> Result<(), Refusal>;
+    ) -> Result<(), Refusal>
+        ensures { OnOk result (items.new.items ≡ []) };
 
     /// The role has failed: nobody waits for it for ever.
     fn fail<R: Wait>(&mut self, rt: &R, shared: &Shared<B>);
@@ -60,7 +61,7 @@ impl<W: Drop, T: Drop> SharedRole<W, T> {
         SharedRole {
             place: Mutex::new(Place {
                 inbox,
-                resting: Some(Busy { role, items }),
+                resting: Some(Loaded { role, items }),
             }),
             changed: Condvar::new(),
         }
@@ -107,11 +108,7 @@ impl<W: Drop, T: Drop> SharedRole<W, T> {
 
     // Takes the role back, and has its thread do what waits.
     fn rest<R: Wait>(&self, rt: &R, busy: Busy<W, T>) {
-        let mut place = take_lock(rt, &self.place);
-        place.resting = Some(busy);
-        let is_quiet = place.is_quiet();
-        drop(place);
-        if !is_quiet {
+        if take_lock(rt, &self.place).rest(busy) {
             self.wake();
         }
     }
@@ -123,9 +120,9 @@ impl<W: Drop, T: Drop> SharedRole<W, T> {
         if place.inbox.ended.is_none() {
             return false;
         }
-        let busy = place.resting.take();
+        let rested = place.resting.take();
         drop(place);
-        drop(busy);
+        drop(rested);
         true
     }
 
@@ -178,6 +175,9 @@ pub(crate) fn help<B: DatabaseName, T: Drop, W: Act<B, T>, G: Pass, R: Wait>(
         };
         left = go_on(rt, lent, role, busy);
     }
+    if let Some(busy) = left {
+        role.rest(rt, busy);
+    }
 }
 
 /// Does all that waits and no other thread does, until nothing comes any more, and drops the role then.
@@ -214,8 +214,9 @@ fn worked<B: DatabaseName, T: Drop, W: Act<B, T>, G: Pass, R: Wait>(
     busy: Busy<W, T>,
 ) -> Busy<W, T> {
     let mut busy = busy;
-    if busy.role.act(rt, lent, &mut busy.items).is_err() {
-        busy.role.fail(rt, lent.shared);
+    let its = &mut busy.loaded;
+    if its.role.act(rt, lent, &mut its.items).is_err() {
+        its.role.fail(rt, lent.shared);
         end(rt, lent.shared, role, Refusal::Failed);
     }
     busy
