@@ -3,7 +3,6 @@ use Rattle.std.proofs.Common.{◌≡◌, ◌∙◌, sym, ap, subst, refl, ℕ, s
 use Rattle.std.proofs.Common.{length, [], ◌∷◌, max, true, Option, Some, None, Result, Ok, IfOk, if◌then◌else◌, arith}
 use Rattle.std.specs.List.{AllByRecursion}
 use Rattle.std.proofs.lemmas.Bool.{cond-true, cond-false, le-leb, lt-leb, eq-eqb}
-use Rattle.std.proofs.lemmas.Result.{IfOk-weaker}
 use Rattle.fdb_keys.specs.Answers.{Answers}
 use Rattle.fdb_keys.specs.Points.{Point}
 use Rattle.fdb_keys.specs.Ranges.{Range, in_range, in_set}
@@ -24,7 +23,6 @@ use Rattle.fdb_owners.specs.Ownership.{Ownership, owner_at, resolvers_of, owned_
 use Rattle.fdb_owners.specs.Ownership.{owners_fault, learn_fault, IsNew, HasLearnt, HasExpired}
 use Rattle.fdb_owners.specs.Parts.{ArePartsOf, owned_from}
 use Rattle.fdb_owners.specs.Pieces.{history_at, joined, IsPieces, AgreeFrom}
-use Rattle.fdb_owners.specs.Spreads.{is_held, AreOwned}
 use Rattle.fdb_owners.proofs.AnswersLemmas.{answers-also}
 use Rattle.fdb_owners.proofs.ChangesLemmas.{owner-below}
 use Rattle.fdb_owners.proofs.HistoryLemmas.{owner-through, up_to-weaken}
@@ -135,21 +133,25 @@ module _ (splits : List Point) (pieces : Pieces) (last floor : ℕ) (are : IsPie
       ∙ ap (λ (one : History). count_between (changes_at (owner_in one)) floor last)
       (is ∙ sym (value-joined pieces.lowest pieces.breaks.entries key rising)))
 
-  pub writers-answers : (self : Ownership) → seen_as splits pieces last floor ≡ self → (range : Range)
+  -- of the points inside, whichever they are, the writers' parts hold those that each one owns
+  pub writers-answers : (self : Ownership) → seen_as splits pieces last floor ≡ self → (inside : Point → Bool)
       (result : Result (List Owned) Refusal)
       → Answers result None (λ parts. (resolvers known : ℕ) → IsPieces resolvers known pieces
-      → ArePartsOf resolvers (λ i x. in_range range x && owned_from (history_at pieces x) i last last) parts)
-      → Answers result None
-      (ArePartsOf (resolvers_of self) (λ i x. in_range range x && (owner_at self x self.last == i)))
-  writers-answers self seen range result answered =
+      → ArePartsOf resolvers (λ i x. inside x && owned_from (history_at pieces x) i last last) parts)
+      → Answers result None (λ parts. (version : ℕ) → self.last ≤ version
+      → ArePartsOf (resolvers_of self) (λ i x. inside x && (owner_at self x version == i)) parts)
+  writers-answers self seen inside result answered =
       subst
-      (λ (owners : Ownership). Answers result None
-      (ArePartsOf (resolvers_of owners) (λ i x. in_range range x && (owner_at owners x owners.last == i)))) seen
+      (λ (owners : Ownership). Answers result None (λ parts. (version : ℕ) → owners.last ≤ version
+      → ArePartsOf (resolvers_of owners) (λ i x. inside x && (owner_at owners x version == i)) parts)) seen
       (answers-also result None _ _
-      (λ parts are_parts.
+      (λ parts are_parts version from.
       parts-alike (suc (length splits)) _ _ parts (are_parts (suc (length splits)) last are)
-      (λ i x. ap (λ (owned : Bool). in_range range x && owned)
-      (owned_from-one (history_at pieces x) i last ∙ ap (λ (owner : ℕ). owner == i) (sym (owner-seen x last)))))
+      (λ i x. ap (λ (owned : Bool). inside x && owned)
+      (owned_from-one (history_at pieces x) i last
+      ∙ ap (λ (owner : ℕ). owner == i)
+      (sym (owner-seen x last)
+      ∙ sym (settled-seen (seen_as splits pieces last floor) refl x version from)))))
       answered)
 
   -- who owned a point at some version of a span
@@ -163,63 +165,21 @@ module _ (splits : List Point) (pieces : Pieces) (last floor : ℕ) (are : IsPie
       ∙ ap (λ (one : History). any_between (λ v. owner_in one v == i) from version)
       (sym (value-joined pieces.lowest pieces.breaks.entries x rising))
 
-  pub readers-answers : (self : Ownership) → seen_as splits pieces last floor ≡ self → (range : Range)
+  pub readers-answers : (self : Ownership) → seen_as splits pieces last floor ≡ self → (inside : Point → Bool)
       (from since version : ℕ) → since ≡ suc from → from < version → (result : Result (List Owned) Refusal)
       → Answers result None (λ parts. (resolvers known : ℕ) → IsPieces resolvers known pieces
-      → ArePartsOf resolvers (λ i x. in_range range x && owned_from (history_at pieces x) i since version) parts)
+      → ArePartsOf resolvers (λ i x. inside x && owned_from (history_at pieces x) i since version) parts)
       → Answers result None
-      (ArePartsOf (resolvers_of self) (λ i x. in_range range x && owned_between self i x from version))
-  readers-answers self seen range from since version is order result answered =
+      (ArePartsOf (resolvers_of self) (λ i x. inside x && owned_between self i x from version))
+  readers-answers self seen inside from since version is order result answered =
       subst
       (λ (owners : Ownership). Answers result None
-      (ArePartsOf (resolvers_of owners) (λ i x. in_range range x && owned_between owners i x from version))) seen
+      (ArePartsOf (resolvers_of owners) (λ i x. inside x && owned_between owners i x from version))) seen
       (answers-also result None _ _
       (λ parts are_parts.
       parts-alike (suc (length splits)) _ _ parts (are_parts (suc (length splits)) last are)
-      (λ i x. ap (λ (owned : Bool). in_range range x && owned)
+      (λ i x. ap (λ (owned : Bool). inside x && owned)
       (owned-seen i from since version x is order)))
-      answered)
-
-  pub owned-answers : (self : Ownership) → seen_as splits pieces last floor ≡ self
-      → (result : Result (List Owned) Refusal)
-      → IfOk result (λ parts. (resolvers known : ℕ) → IsPieces resolvers known pieces → AreOwned resolvers parts)
-      → IfOk result (AreOwned (resolvers_of self))
-  owned-answers self seen result owned =
-      subst (λ (owners : Ownership). IfOk result (AreOwned (resolvers_of owners))) seen
-      (IfOk-weaker result _ (AreOwned (suc (length splits)))
-      (λ parts are_owned. are_owned (suc (length splits)) last are) owned)
-
-  pub writers-held : (self : Ownership) → seen_as splits pieces last floor ≡ self → (set : List Range)
-      (result : Result (List Owned) Refusal)
-      → Answers result None (λ parts. (i : ℕ) (x : Point)
-      → is_held parts i x ≡ (in_set set x && owned_from (history_at pieces x) i last last))
-      → Answers result None (λ parts. (version : ℕ) → self.last ≤ version → (i : ℕ) (x : Point)
-      → is_held parts i x ≡ (in_set set x && (owner_at self x version == i)))
-  writers-held self seen set result answered =
-      answers-also result None _ _
-      (λ parts held version from i x.
-      held i x
-      ∙ ap (λ (owned : Bool). in_set set x && owned)
-      (owned_from-one (history_at pieces x) i last
-      ∙ ap (λ (owner : ℕ). owner == i)
-      (subst (λ (owners : Ownership). owner_in (history_at pieces x) last ≡ owner_at owners x owners.last) seen
-      (sym (owner-seen x last))
-      ∙ sym (settled-seen self seen x version from))))
-      answered
-
-  pub readers-held : (self : Ownership) → seen_as splits pieces last floor ≡ self → (set : List Range)
-      (from since version : ℕ) → since ≡ suc from → from < version → (result : Result (List Owned) Refusal)
-      → Answers result None (λ parts. (i : ℕ) (x : Point)
-      → is_held parts i x ≡ (in_set set x && owned_from (history_at pieces x) i since version))
-      → Answers result None (λ parts. (i : ℕ) (x : Point)
-      → is_held parts i x ≡ (in_set set x && owned_between self i x from version))
-  readers-held self seen set from since version is order result answered =
-      subst
-      (λ (owners : Ownership). Answers result None (λ parts. (i : ℕ) (x : Point)
-      → is_held parts i x ≡ (in_set set x && owned_between owners i x from version))) seen
-      (answers-also result None _ _
-      (λ parts held i x.
-      held i x ∙ ap (λ (owned : Bool). in_set set x && owned) (owned-seen i from since version x is order))
       answered)
 
 -- ---- what calls leave

@@ -1,10 +1,9 @@
 -- Parts of a whole set, found range by range, or as those of its one owner.
-use Rattle.std.proofs.Common.{subst, ◌≡◌, ◌∙◌, sym, ap, ap₂, refl, ℕ, ◌<◌, Bool, true, false, ◌&&◌, ◌||◌, ◌==◌}
-use Rattle.std.proofs.Common.{List, [], ◌∷◌, ◌++◌, ⊎_elim, arith}
+use Rattle.std.proofs.Common.{◌≡◌, ◌∙◌, sym, ap, ap₂, refl, ℕ, ◌<◌, Bool, true, false, ◌&&◌, ◌||◌, ◌==◌}
+use Rattle.std.proofs.Common.{List, [], ◌∷◌, ⊎_elim, arith, ◌⊎◌, inl, inr, if◌then◌else◌}
 use Rattle.std.specs.List.{AllByRecursion}
 use Rattle.std.proofs.lemmas.Bool.{cases_Bool, eqb-true, false_from_ne_true, cond-true, cond-false}
-use Rattle.std.proofs.lemmas.List.Elements.{All-append, All-from_recursion}
-use Rattle.std.proofs.lemmas.List.Folds.{list_any-append}
+use Rattle.std.proofs.lemmas.List.Elements.{All-from_recursion}
 use Rattle.std.proofs.Math.Bool.{and-true, or-false}
 use Rattle.fdb_keys.specs.Points.{Point}
 use Rattle.fdb_keys.specs.Ranges.{Range, in_range, in_set}
@@ -42,21 +41,29 @@ held-alone (part ∷ parts) i x rising = ⊎_elim
     (sym (cond-false (part.resolver == i) part.ranges (ranges_at parts i) other)))
     (cases_Bool (part.resolver == i))
 
+-- so each part is of one of the resolvers, and has a point
+pub parts-owned : (n : ℕ) (held : ℕ → Point → Bool) (parts : List Owned) → ArePartsOf n held parts
+    → AreOwned n parts
+parts-owned n held parts are k d within = (
+  All-from_recursion (λ (part : Owned). part.resolver < n) parts are.within k d within,
+  All-from_recursion (λ (part : Owned). has_points part.ranges ≡ true) parts are.some k d within,
+)
+
+-- and a point lies in a part of the resolver that holds it
+pub parts-held : (n : ℕ) (held : ℕ → Point → Bool) (parts : List Owned) → ArePartsOf n held parts
+    → (i : ℕ) (x : Point) → is_held parts i x ≡ held i x
+parts-held n held parts are i x = held-alone parts i x are.rising ∙ are.points i x
+
 -- one range more is spread, which was the first of those that were left
-pub spread-next : (n : ℕ) (held : ℕ → Point → Bool) (found more now : List Owned) (range : Range)
-    (left rest : List Range) (i : ℕ) (x : Point) (all : Bool)
-    → ArePartsOf n (λ j y. in_range range y && held j y) more → left ≡ range ∷ rest → now ≡ found ++ more
-    → (is_held found i x || in_set left x && held i x) ≡ all → (is_held now i x || in_set rest x && held i x) ≡ all
-spread-next n held found more now range left rest i x all are first adds before =
-    ap (λ (parts : List Owned). is_held parts i x || in_set rest x && held i x) adds
-    ∙ ap (λ (it : Bool). it || in_set rest x && held i x)
-    (list_any-append (λ (part : Owned). (part.resolver == i) && in_set part.ranges x) found more
-    ∙ ap (λ (new : Bool). is_held found i x || new) (held-alone more i x are.rising ∙ are.points i x))
-    ∙ regroup (is_held found i x) (in_range range x) (in_set rest x) (held i x)
-    ∙ ap (λ (ranges : List Range). is_held found i x || in_set ranges x && held i x) (sym first)
+pub spread-next : (held owned : Bool) (range : Range) (left rest : List Range) (x : Point) (all : Bool)
+    → left ≡ range ∷ rest → (held || in_set left x && owned) ≡ all
+    → ((held || (in_range range x && owned)) || in_set rest x && owned) ≡ all
+spread-next held owned range left rest x all first before =
+    regroup held (in_range range x) (in_set rest x) owned
+    ∙ ap (λ (ranges : List Range). held || in_set ranges x && owned) (sym first)
     ∙ before
   where
-    regroup : (a r s h : Bool) → ((a || r && h) || s && h) ≡ (a || (r || s) && h)
+    regroup : (a r s h : Bool) → ((a || (r && h)) || s && h) ≡ (a || (r || s) && h)
     regroup true r s h = refl
     regroup false true true true = refl
     regroup false true true false = refl
@@ -64,31 +71,29 @@ spread-next n held found more now range left rest i x all are first adds before 
     regroup false true false false = refl
     regroup false false s h = refl
 
--- the parts that were found for one range more are owned too
-pub owned-next : (n : ℕ) (held : ℕ → Point → Bool) (found more now : List Owned) → ArePartsOf n held more
-    → now ≡ found ++ more → AreOwned n found → AreOwned n now
-owned-next n held found more now are adds owned =
-    subst (AreOwned n) (sym adds)
-    (All-append (λ (part : Owned). (part.resolver < n) × (has_points part.ranges ≡ true)) found more owned
-    (λ k d within. (
-      All-from_recursion (λ (part : Owned). part.resolver < n) more are.within k d within,
-      All-from_recursion (λ (part : Owned). has_points part.ranges ≡ true) more are.some k d within,
-    )))
-
 -- a whole set is the part of the resolver that alone owned it
-pub sole-owned : (n sole : ℕ) (set : List Range) → sole < n → has_points set ≡ true
-    → AreOwned n (record { resolver = sole; ranges = set } ∷ [])
-sole-owned n sole set within some =
-    All-from_recursion (λ (part : Owned). (part.resolver < n) × (has_points part.ranges ≡ true))
-    (record { resolver = sole; ranges = set } ∷ []) ((within, some), tt)
-
-pub sole-held : (sole i : ℕ) (set : List Range) (x : Point) (owned : Bool)
-    → (in_set set x ≡ true → owned ≡ (sole == i))
-    → is_held (record { resolver = sole; ranges = set } ∷ []) i x ≡ (in_set set x && owned)
-sole-held sole i set x owned alone =
-    or-false ((sole == i) && in_set set x) ∙ turned (sole == i) (in_set set x) alone
+pub sole-parts : (n sole : ℕ) (set : List Range) (owned : ℕ → Point → Bool) → sole < n → has_points set ≡ true
+    → ((i : ℕ) (x : Point) → in_set set x ≡ true → owned i x ≡ (sole == i))
+    → ArePartsOf n (λ i x. in_set set x && owned i x) (record { resolver = sole; ranges = set } ∷ [])
+sole-parts n sole set owned within some alone = record {
+  rising = (tt, tt);
+  within = (within, tt);
+  some = (some, tt);
+  points = λ i x. points i x (cases_Bool (sole == i));
+}
   where
-    turned : (own inside : Bool) → (inside ≡ true → owned ≡ own) → (own && inside) ≡ (inside && owned)
-    turned own true alone = and-true own ∙ sym (alone refl)
-    turned true false alone = refl
-    turned false false alone = refl
+    turned : (own inside owned : Bool) → (inside ≡ true → owned ≡ own) → (own && inside) ≡ (inside && owned)
+    turned own true owned alone = and-true own ∙ sym (alone refl)
+    turned true false owned alone = refl
+    turned false false owned alone = refl
+
+    points : (i : ℕ) (x : Point) → ((sole == i) ≡ true) ⊎ ((sole == i) ≡ false)
+        → in_set (if sole == i then set else []) x ≡ (in_set set x && owned i x)
+    points i x (inl is) =
+        ap (λ (ranges : List Range). in_set ranges x) (cond-true (sole == i) set [] is)
+        ∙ ap (λ (b : Bool). b && in_set set x) (sym is)
+        ∙ turned (sole == i) (in_set set x) (owned i x) (alone i x)
+    points i x (inr is) =
+        ap (λ (ranges : List Range). in_set ranges x) (cond-false (sole == i) set [] is)
+        ∙ ap (λ (b : Bool). b && in_set set x) (sym is)
+        ∙ turned (sole == i) (in_set set x) (owned i x) (alone i x)

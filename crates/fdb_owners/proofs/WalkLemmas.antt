@@ -19,7 +19,7 @@ use Rattle.fdb_owners.specs.Histories.{AreFalling, IsHistory}
 use Rattle.fdb_owners.specs.Parts.{ArePartsOf, owned_from, with_owners, with_pieces, IsWay}
 use Rattle.fdb_owners.specs.Pieces.{IsPieces, history_at}
 use Rattle.fdb_owners.proofs.OwnedFromLemmas.{or-none}
-use Rattle.fdb_owners.proofs.PartsLemmas.{HasOwnersBelow, parts-alike, parts-none, parts-with_owners}
+use Rattle.fdb_owners.proofs.PartsLemmas.{HasOwnersBelow, parts-alike, parts-with_owners}
 
 -- ---- inside a range the value at its begin counts, and the breakpoints inside it
 module _ {V : Type 0} (start : V) (es : Breaks V) (begin end : Point) (rising : Rise es)
@@ -264,8 +264,10 @@ parts-walked n last since through pieces range held old new known rising of_begi
     ∙ ap (λ (b : Bool). b && owned_from (history_at pieces x) j since through) (sym out))
     (cases_Bool (in_range range x)))))
 
--- a range without a point has no parts
-pub parts-of_none : (n : ℕ) (range : Range) (test : ℕ → Point → Bool) → ((x : Point) → in_range range x ≡ false)
-    → ArePartsOf n (λ i x. in_range range x && test i x) []
-parts-of_none n range test none =
-    parts-alike n (λ j x. false) _ [] (parts-none n) (λ j x. ap (λ (b : Bool). b && test j x) (sym (none x)))
+-- a range without a point adds nothing to the parts
+pub parts-unmet : (n : ℕ) (range : Range) (test held : ℕ → Point → Bool) (parts : List Owned)
+    → ((x : Point) → in_range range x ≡ false) → ArePartsOf n held parts
+    → ArePartsOf n (λ i x. held i x || (in_range range x && test i x)) parts
+parts-unmet n range test held parts none are =
+    parts-alike n held _ parts are
+    (λ j x. sym (or-none (held j x)) ∙ ap (λ (b : Bool). held j x || (b && test j x)) (sym (none x)))

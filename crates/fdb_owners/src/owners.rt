@@ -67,7 +67,6 @@ impl Owners {
     ghost use Rattle.fdb_owners.specs.Ownership.{owner_at, resolvers_of, owned_between, changes_of, owners_fault};
     ghost use Rattle.fdb_owners.specs.Ownership.{learn_fault, IsNew, HasLearnt, HasExpired};
     ghost use Rattle.fdb_owners.specs.Parts.{ArePartsOf};
-    ghost use Rattle.fdb_owners.specs.Spreads.{is_held, AreOwned};
 
     /// The owners at first, of so many resolvers: the first one owns the keys before the first split, and each
     /// further one those from a split on. Refused as `BadConfig` unless there is one split less than there are
@@ -171,15 +170,15 @@ impl Owners {
         parts_of(self.alloc, &self.pieces, range, span)
     }
 
-    /// The parts of the set, by who owns each key at the last version learnt, and so from that version on. A resolver
-    /// may have several of them, in no promised order, and each has a key; an empty set has none. Mostly one look finds
-    /// one owner of all keys: no breakpoint lies between the set's first begin and its last end. Then there is one
-    /// part, a copy of the whole set, which is O(1) where the set is shared. Refused only as `NoMemory`. It takes
-    /// O(log n) for the n breakpoints where one look finds the owner, else what `writers` takes for each range.
+    /// Each resolver that owns keys of the set at the last version learnt, and so from that version on, with those keys,
+    /// by the resolvers' numbers. Mostly one look finds one owner of all keys: no breakpoint lies between the set's
+    /// first begin and its last end. Then there is one part, a copy of the whole set, which is O(1) where the set is
+    /// shared. Refused only as `NoMemory`. It takes O(log n) for the n breakpoints where one look finds the owner, else
+    /// what `writers` takes for each range.
     pub fn writers_of(&self, set: &RangeSet) -> Result<Items<Owned>, Refusal>
-        ensures owned { IfOk result (AreOwned (resolvers_of self.now)) }
-        ensures held { Answers result None (λ parts. (version : ℕ) → self.now.last ≤ version → (i : ℕ) (x : Point)
-            → is_held parts i x ≡ (in_set set.now x && (owner_at self.now x version == i))) }
+        ensures { Answers result None (λ parts. (version : ℕ) → self.now.last ≤ version
+            → ArePartsOf (resolvers_of self.now)
+            (λ i x. in_set set.now x && (owner_at self.now x version == i)) parts) }
     {
         let span = Span {
             since: self.last,
@@ -188,12 +187,11 @@ impl Owners {
         spread(self.alloc, &self.pieces, set, span)
     }
 
-    /// The parts of the set, by who owned each key at some version above `from` and at most `version`. `from` lies
-    /// below `version`, and not below a version that expired. A resolver may have several of them, in no promised
-    /// order, and each has a key; an empty set has none. Mostly one look finds one owner of all keys, as for
-    /// `writers_of`: besides, nothing changed there at those versions. Then there is one part, a copy of the whole set,
-    /// which is O(1) where the set is shared. Refused only as `NoMemory`. It takes O(log n) for the n breakpoints where
-    /// one look finds the owner, else what `readers` takes for each range.
+    /// Each resolver that owned keys of the set at some version above `from` and at most `version`, with those keys, by
+    /// the resolvers' numbers. `from` lies below `version`, and not below a version that expired. Mostly one look finds
+    /// one owner of all keys, as for `writers_of`: besides, nothing changed there at those versions. Then there is one
+    /// part, a copy of the whole set, which is O(1) where the set is shared. Refused only as `NoMemory`. It takes
+    /// O(log n) for the n breakpoints where one look finds the owner, else what `readers` takes for each range.
     pub fn readers_of(
         &self,
         set: &RangeSet,
@@ -202,9 +200,8 @@ impl Owners {
     ) -> Result<Items<Owned>, Refusal>
         requires order { from < version }
         requires floor { self.now.floor ≤ from }
-        ensures owned { IfOk result (AreOwned (resolvers_of self.now)) }
-        ensures held { Answers result None (λ parts. (i : ℕ) (x : Point)
-            → is_held parts i x ≡ (in_set set.now x && owned_between self.now i x from version)) }
+        ensures { Answers result None (ArePartsOf (resolvers_of self.now)
+            (λ i x. in_set set.now x && owned_between self.now i x from version)) }
     {
         let span = Span {
             since: from + 1,

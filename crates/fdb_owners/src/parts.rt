@@ -268,25 +268,44 @@ fn add_along(
     }
 }
 
+/// Adds the keys of the range to the parts of those who owned them at some version of the span, where each resolver has
+/// at most one part. It takes O(log n) for the n breakpoints. For each piece that the range meets and each of its owners
+/// in the span it takes O(log m) to find the owner's part among m, and what its ranges take to add one to them; a new
+/// part moves those behind it. Refused only as `NoMemory`.
+pub(crate) fn add_range(
+    alloc: Global,
+    parts: &mut Vec<Owned>,
+    pieces: &Pieces,
+    range: &KeyRange,
+    span: Span,
+) -> Result<(), Refusal>
+    requires known { HaveHistories pieces.now }
+    requires rising { AreRisingParts parts.old.items }
+    ensures { Answers result None (λ _. (resolvers last : ℕ) (held : ℕ → Point → Bool)
+        → IsPieces resolvers last pieces.now → ArePartsOf resolvers held parts.old.items
+        → ArePartsOf resolvers (λ i x. held i x || (in_range range.now x
+        && owned_from (history_at pieces.now x) i span.since span.through)) parts.new.items) }
+{
+    if range.is_empty() {
+        return Ok(());
+    }
+    add_along(alloc, parts, pieces, range, span)
+}
+
 /// Each resolver that owned keys of the range at some version of the span, with those keys, by the resolvers' numbers.
-/// It takes O(log n) for the n breakpoints. For each piece that the range meets and each of its owners in the span it
-/// takes O(log m) to find the owner's part among m, and what its ranges take to add one to them; a new part moves those
-/// behind it. Refused only as `NoMemory`.
+/// It takes what `add_range` takes. Refused only as `NoMemory`.
 pub(crate) fn parts_of(
     alloc: Global,
     pieces: &Pieces,
     range: &KeyRange,
     span: Span,
 ) -> Result<Items<Owned>, Refusal>
-    requires order { span.since ≤ span.through }
     requires known { HaveHistories pieces.now }
     ensures { Answers result None (λ parts. (resolvers last : ℕ) → IsPieces resolvers last pieces.now
         → ArePartsOf resolvers (λ i x. in_range range.now x
         && owned_from (history_at pieces.now x) i span.since span.through) parts) }
 {
     let mut parts = Vec::new(alloc);
-    if !range.is_empty() {
-        add_along(alloc, &mut parts, pieces, range, span)?;
-    }
+    add_range(alloc, &mut parts, pieces, range, span)?;
     Ok(Items::from_vec(parts))
 }

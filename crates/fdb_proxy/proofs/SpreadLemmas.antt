@@ -1,8 +1,10 @@
 -- A transaction, spread over the resolvers that are asked about it.
 use Rattle.std.proofs.Common.{◌≡◌, ◌∙◌, refl, sym, ap, ℕ, zero, suc, ◌≤◌, max, min, Bool, false, ◌&&◌, ◌||◌, ◌==◌, List}
-use Rattle.std.proofs.Common.{arith}
+use Rattle.std.proofs.Common.{Result, Ok, Err, None, IfOk, arith}
 use Rattle.std.proofs.Math.Bool.{and-false}
 use Rattle.std.proofs.lemmas.Bool.{lt-leb}
+use Rattle.fdb_keys.specs.Answers.{Answers}
+use Rattle.fdb_keys.specs.declared.refusal.Refusal.{Refusal}
 use Rattle.fdb_keys.specs.Points.{Point}
 use Rattle.fdb_keys.specs.Ranges.{Range, in_set}
 use Rattle.fdb_txn.specs.book.Book.{DatedMove, head_at, placed}
@@ -11,8 +13,10 @@ use Rattle.fdb_txn.specs.rules.Admission.{has_points}
 use Rattle.fdb_owners.specs.Histories.{any_between}
 use Rattle.fdb_owners.specs.Ownership.{Ownership, owner_at, owned_between}
 use Rattle.fdb_owners.specs.OwnersLaws.{AgreesWith}
-use Rattle.fdb_owners.specs.Spreads.{is_held}
-use Rattle.fdb_owners.proofs.Exports.{owned_by_the_book}
+use Rattle.fdb_owners.specs.Parts.{ArePartsOf}
+use Rattle.fdb_owners.specs.Spreads.{is_held, AreOwned}
+use Rattle.fdb_owners.specs.declared.parts.Owned.{Owned}
+use Rattle.fdb_owners.proofs.Exports.{owned_by_the_book, parts-owned, parts-held}
 use Rattle.fdb_proxy.specs.declared.parting.Spread.{Spread}
 use Rattle.fdb_proxy.specs.Spreads.{IsSpreadOf}
 
@@ -29,6 +33,18 @@ pub none-asked : (owners : Ownership) (set : List Range) (i : ℕ) (x : Point) (
 none-asked owners set i x low high order =
     sym (ap (λ (held : Bool). in_set set x && held) (none-between (λ v. owner_at owners x v == i) low high order)
     ∙ and-false (in_set set x))
+
+-- what owners find for a set is owned, and held by who owns it
+pub answers-owned : (n : ℕ) (held : ℕ → Point → Bool) (result : Result (List Owned) Refusal)
+    → Answers result None (ArePartsOf n held) → IfOk result (AreOwned n)
+answers-owned n held (Ok parts) are = parts-owned n held parts are
+answers-owned n held (Err why) are = tt
+
+pub answers-held : (n : ℕ) (held : ℕ → Point → Bool) (result : Result (List Owned) Refusal)
+    → Answers result None (ArePartsOf n held)
+    → Answers result None (λ parts. (i : ℕ) (x : Point) → is_held parts i x ≡ held i x)
+answers-held n held (Ok parts) are = parts-held n held parts are
+answers-held n held (Err why) refused = refused
 
 -- by owners that agree with a book, the parts are those of the book's place
 pub spread-by_book : (owners : Ownership) (moves : List DatedMove) (version horizon number : ℕ)

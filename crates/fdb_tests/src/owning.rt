@@ -9,17 +9,25 @@ use fdb_owners::{Owned, Owners};
 use fdb_txn::Move;
 use std::alloc::Global;
 
-// A part of a resolver, of one range.
-type PartOf = (u32, &'static [u8], &'static [u8]);
+// Ranges, by their bounds.
+type Bounds = &'static [(&'static [u8], &'static [u8])];
+
+// A part of a resolver, of these ranges.
+type PartOf = (u32, Bounds);
 
 // The version below which all expired, and who owned the key p at some version above the next one and at most the last
 // one, while it went over at version 300.
 const READERS: &[(u64, u64, u64, &[PartOf])] = &[
     // Reads from before the move are asked of both.
-    (0, 100, 300, &[(0, b"p", b"p\0"), (1, b"p", b"p\0")]),
-    (0, 299, 300, &[(0, b"p", b"p\0")]),
+    (
+        0,
+        100,
+        300,
+        &[(0, &[(b"p", b"p\0")]), (1, &[(b"p", b"p\0")])],
+    ),
+    (0, 299, 300, &[(0, &[(b"p", b"p\0")])]),
     // Owners from an expired version on are kept.
-    (300, 300, 400, &[(0, b"p", b"p\0")]),
+    (300, 300, 400, &[(0, &[(b"p", b"p\0")])]),
 ];
 
 fn two_resolvers(alloc: Global) -> Result<Owners, Refusal>
@@ -65,9 +73,8 @@ fn expired(alloc: Global, version: u64) -> Result<Owners, Refusal>
 // Whether these are just those parts.
 fn are_parts(parts: &[Owned], wanted: &[PartOf]) -> bool {
     parts.len() == wanted.len()
-        && parts.iter().zip(wanted).all(|(part, (resolver, begin, end))| {
-            part.resolver == *resolver
-                && are_ranges(part.ranges.iter().as_slice(), &[(*begin, *end)])
+        && parts.iter().zip(wanted).all(|(part, (resolver, ranges))| {
+            part.resolver == *resolver && are_ranges(part.ranges.iter().as_slice(), ranges)
         })
 }
 
@@ -115,7 +122,7 @@ fn are_writers_to_z(owners: &Owners, alloc: Global) -> Result<bool, u32> {
         KeyRange::new(alloc, b"a", b"z"),
         |range| owners.writers(range),
     );
-    gave(parts, &[(0, b"a", b"t"), (1, b"t", b"z")])
+    gave(parts, &[(0, &[(b"a", b"t")]), (1, &[(b"t", b"z")])])
 }
 
 #[test]
@@ -136,22 +143,9 @@ fn moved_keys_belong_to_the_target(rt: HostRuntime) {
     }
 }
 
-// Ranges, by their bounds.
-type Bounds = &'static [(&'static [u8], &'static [u8])];
-
-// A part of a resolver, of some ranges.
-type SetPartOf = (u32, Bounds);
-
 // Whether the keys from m to t went over at version 300, a set, the version above which and the one up to which it was
 // read, its parts by who owned the keys then, and those by who owns them now.
-type Asked = (
-    bool,
-    Bounds,
-    u64,
-    u64,
-    &'static [SetPartOf],
-    &'static [SetPartOf],
-);
+type Asked = (bool, Bounds, u64, u64, &'static [PartOf], &'static [PartOf]);
 
 const SETS: &[Asked] = &[
     (
@@ -186,6 +180,15 @@ const SETS: &[Asked] = &[
         100,
         &[(0, &[(b"a", b"b")]), (1, &[(b"n", b"p")])],
         &[(0, &[(b"a", b"b")]), (1, &[(b"n", b"p")])],
+    ),
+    // All ranges of a resolver are in its one part.
+    (
+        false,
+        &[(b"a", b"b"), (b"c", b"d"), (b"n", b"p")],
+        0,
+        100,
+        &[(0, &[(b"a", b"b"), (b"c", b"d")]), (1, &[(b"n", b"p")])],
+        &[(0, &[(b"a", b"b"), (b"c", b"d")]), (1, &[(b"n", b"p")])],
     ),
     (
         false,
@@ -265,34 +268,6 @@ fn before_or_after(alloc: Global, is_moved: bool) -> Result<Owners, Refusal>
     two_resolvers(alloc)
 }
 
-// Whether one of the parts is that one.
-fn is_among(parts: &[Owned], wanted: &SetPartOf) -> bool {
-    for part in parts {
-        if part.resolver == wanted.0 && are_ranges(part.ranges.iter().as_slice(), wanted.1) {
-            return true;
-        }
-    }
-    false
-}
-
-// Whether these are just those parts, no two of which are the same, in any order.
-fn are_set_parts(parts: &[Owned], wanted: &[SetPartOf]) -> bool {
-    for one in wanted {
-        if !is_among(parts, one) {
-            return false;
-        }
-    }
-    parts.len() == wanted.len()
-}
-
-// Whether the call gave just those parts.
-fn gave_set(answer: Result<Items<Owned>, Refusal>, wanted: &[SetPartOf]) -> Result<bool, u32> {
-    match answer {
-        Ok(parts) => Ok(are_set_parts(parts.as_slice(), wanted)),
-        Err(why) => Err(why.code()),
-    }
-}
-
 // Whether the parts of the set are just those: by who owned its keys at some version above `from` and at most
 // `version`, and by who owns them now.
 fn are_parted(
@@ -300,15 +275,15 @@ fn are_parted(
     set: &RangeSet,
     from: u64,
     version: u64,
-    readers: &[SetPartOf],
-    writers: &[SetPartOf],
+    readers: &[PartOf],
+    writers: &[PartOf],
 ) -> (Result<bool, u32>, Result<bool, u32>)
     requires order { from < version }
     requires floor { owners.now.floor ≤ from }
 {
     (
-        gave_set(owners.readers_of(set, from, version), readers),
-        gave_set(owners.writers_of(set), writers),
+        gave(owners.readers_of(set, from, version), readers),
+        gave(owners.writers_of(set), writers),
     )
 }
 

@@ -2,11 +2,15 @@ use Rattle.std.proofs.Common.{◌∙◌, ap, ◌&&◌, ◌==◌, List, ℕ, rule
 use Rattle.fdb_keys.specs.Ranges.{Range, in_set}
 use Rattle.fdb_txn.specs.rules.Admission.{has_points}
 use Rattle.fdb_owners.specs.Ownership.{owner_at, owned_between}
+use Rattle.fdb_owners.proofs.Exports.{parts-owned, parts-held}
 use Rattle.fdb_proxy.proofs.SpreadLemmas.{spread-by_book}
 use Rattle.fdb_proxy.proofs.parting.spread_txn.Goals as goal
 
 pub returns-clause-owned : goal.returns-clause-owned
-returns-clause-owned c = record { reads = c.in_ok-reads.ensures.owned; writes = c.in_ok-writes.ensures.owned }
+returns-clause-owned c = record {
+  reads = c.in_ok-reads.ensures.owned;
+  writes = parts-owned _ _ _ (c.in_ok-writes.ensures c.args.version c.requires.learnt);
+}
 
 pub returns-clause-spread : goal.returns-clause-spread
 returns-clause-spread c moves number agrees =
@@ -18,6 +22,6 @@ returns-clause-spread c moves number agrees =
     c.reads.ensures
     ∙ ap (λ (from : ℕ). in_set c.args.txn.now.reads x && owned_between c.args.owners.now i x from c.args.version)
     (search rules))
-    (λ i x. c.in_ok-writes.ensures.held c.args.version c.requires.learnt i x
+    (λ i x. parts-held _ _ _ (c.in_ok-writes.ensures c.args.version c.requires.learnt) i x
     ∙ ap (λ (set : List Range). in_set set x && (owner_at c.args.owners.now x c.args.version == i))
     c.writes.ensures.value)

@@ -1,12 +1,8 @@
-use Rattle.fdb_owners.proofs.OwnersLemmas.{owned-answers, writers-held}
+use Rattle.fdb_keys.specs.Ranges.{in_set}
+use Rattle.fdb_owners.proofs.OwnersLemmas.{writers-answers}
 use Rattle.fdb_owners.proofs.owners.Owners.writers_of.Goals as goal
 
-pub returns-clause-owned : goal.returns-clause-owned
-returns-clause-owned c =
-    owned-answers c.self.inside.splits c.self.inside.pieces c.self.inside.last c.self.inside.floor c.self.invariant.1
-    c.self.invariant.2 c.args.self.now c.self.view_is c.spread.result c.spread.ensures.owned
-
-pub returns-clause-held : goal.returns-clause-held
-returns-clause-held c =
-    writers-held c.self.inside.splits c.self.inside.pieces c.self.inside.last c.self.inside.floor c.self.invariant.1
-    c.self.invariant.2 c.args.self.now c.self.view_is c.args.set.now c.spread.result c.spread.ensures.held
+pub returns : goal.returns
+returns c =
+    writers-answers c.self.inside.splits c.self.inside.pieces c.self.inside.last c.self.inside.floor c.self.invariant.1
+    c.self.invariant.2 c.args.self.now c.self.view_is (in_set c.args.set.now) c.spread.result c.spread.ensures
