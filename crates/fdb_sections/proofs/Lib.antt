@@ -13,6 +13,7 @@ mod ReadingLemmas
 mod ReceiptLaws
 mod ReplyLemmas
 mod ResolverLemmas
+mod ResolverMachineLemmas
 mod SessionLemmas
 mod SettlingLemmas
 mod ShardLemmas

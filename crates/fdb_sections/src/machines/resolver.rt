@@ -3,6 +3,7 @@ ghost use Rattle.std.specs.Prelude.{◌≡◌, None, Ok, IfErr, IfSome, OnOk};
 ghost use Rattle.std.specs.FinMap.{empty};
 ghost use Rattle.std.specs.Option.{option_map};
 ghost use Rattle.fdb_keys.specs.declared.refusal.Refusal.TheVariants.{NoMemory};
+ghost use Rattle.fdb_txn.specs.book.Book.{last_version};
 ghost use Rattle.fdb_sections.specs.declared.machines.resolver.SentPart.{SentPart as ASentPart};
 ghost use Rattle.fdb_sections.specs.ResolverMachines.{keeping, finding, TakesTurn};
 
@@ -53,14 +54,30 @@ impl<B: DatabaseName> ResolverMachine<B> {
     }
 
     /// Takes a part, which waits until its turn comes. One that comes again is dropped. Refused only as `NoMemory`, and
-    /// then the resolver can't go on, as the part is lost. It takes O(log n) time for n parts that wait.
+    /// then the resolver can't go on, as the part is lost. It takes O(log n) time for n parts that wait, and no memory
+    /// where its turn has come.
     pub fn take(&mut self, sent: SentPart<B>) -> Result<(), Refusal>
         ensures taken { OnOk result (self.new ≡ finding (keeping self.old sent)) }
         ensures refused { IfErr result (λ why. why ≡ NoMemory) }
     {
+        if self.turn.is_none() && sent.message.prev() == self.at.version() {
+            self.begin_turn(sent);
+            return Ok(());
+        }
         self.keep(sent)?;
         self.find_turn();
         Ok(())
+    }
+
+    // It is the turn of the part, and no other turn was found: so it isn't put where parts wait, but is dropped if one
+    // with the same number waits there.
+    fn begin_turn(&mut self, sent: SentPart<B>)
+        requires none { self.old.turn ≡ None }
+        requires comes { sent.message.part.prev ≡ last_version self.old.at.front }
+        ensures { self.new ≡ finding (keeping self.old sent) }
+    {
+        let first = self.early.ready(self.at.version()).unwrap_or(sent);
+        self.turn = Some(first);
     }
 
     // Keeps the part until its turn comes. One that comes again is dropped.
