@@ -9,8 +9,8 @@ ghost use Rattle.fdb_sequencer.specs.Sequencer.{set_window_fault};
 
 use crate::gate::Gate;
 use crate::session::Session;
+use crate::shared::Shared;
 use crate::shared::shard::{hold_all, lent_of};
-use crate::shared::{Shared, tie_all};
 use crate::status::{Status, status_of};
 use crate::threads::gated::Gated;
 use crate::threads::team::Team;
@@ -78,7 +78,7 @@ impl<B: DatabaseName + Send + Sync + 'static> Database<B> {
         requires legal { config_fault config.now ≡ None }
         ensures { Answers result None (λ database. database ≡ 0) }
     {
-        let shared = Shared::new(alloc, Book::open(blank), config, advance)?;
+        let shared = Shared::new(rt, alloc, Book::open(blank), config, advance)?;
         let shared = Arc::new(alloc, shared)?;
         let mut team = Team::new(alloc);
         match start_team(rt, &shared, gate, config, &mut team) {
@@ -196,7 +196,6 @@ fn start_team<
     ensures { Answers result None (λ _. ⊤) }
 {
     let gated = Gated::share(shared, gate)?;
-    tie_all(rt, &**shared)?;
     let mut workers = Workers::new(shared.alloc);
     workers.add_all(config)?;
     team.start(rt, &gated, &mut workers)

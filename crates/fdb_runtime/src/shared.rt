@@ -5,21 +5,19 @@ ghost use Rattle.fdb_proxy.specs.Configs.{config_fault};
 ghost use Rattle.fdb_runtime.specs.Databases.{AnswersMove, is_bad_move};
 ghost use Rattle.fdb_sequencer.specs.Sequencer.{set_window_fault};
 
-use crate::threads::channel::roomy;
 use commit_proxy::{CommitRole, SharedCommitProxy};
-use crossbeam_channel::{Receiver, Sender};
 use fdb_book::Book;
 use fdb_keys::{Key, KeyRange, Refusal, is_before};
 use fdb_proxy::Config;
 use fdb_sections::{
     BatchMessage, DatabaseName, GrantMessage, Issued, LogAt, LoggedFront, Reported, ResolverAt,
-    SequencerAt, ShardAt, VerdictMessage, both,
+    SequencerAt, ShardAt, both,
 };
 use fdb_storage::ShardMap;
 use fdb_txn::Move;
 use log::SharedLog;
 use read_version_proxy::{ReadVersionRole, SharedReadVersionProxy};
-use resolver::{SharedResolver, share_resolver};
+use resolver::{ResolverRole, SharedResolver, share_resolver, tie_all};
 use role::SharedRole;
 use shard::SharedShard;
 use std::alloc::Global;
@@ -57,9 +55,10 @@ pub(crate) struct Shared<B: DatabaseName> {
 }
 
 impl<B: DatabaseName> Shared<B> {
-    /// The state of a database in which nothing happened, and in which roles aren't tied to each other yet. Refused as
-    /// `BadConfig` where the configuration isn't legal, and as `NoMemory`.
-    pub(crate) fn new(
+    /// The state of a database in which nothing happened. Refused as `BadConfig` where the configuration isn't legal, and
+    /// as `NoMemory`.
+    pub(crate) fn new<R: Wait>(
+        rt: &R,
         alloc: Global,
         book: Book<B>,
         config: &Config,
@@ -69,11 +68,12 @@ impl<B: DatabaseName> Shared<B> {
         ensures { Answers result (config_fault config.now) (λ _. ⊤) }
     {
         let (resolvers, tags) = resolvers_and_shards(config)?;
-        Self::of_roles(alloc, book, config, advance, resolvers, tags)
+        Self::of_roles(rt, alloc, book, config, advance, resolvers, tags)
     }
 
     // The same where the configuration is legal, with so many resolvers and shards. Refused only as `NoMemory`.
-    fn of_roles(
+    fn of_roles<R: Wait>(
+        rt: &R,
         alloc: Global,
         book: Book<B>,
         config: &Config,
@@ -89,14 +89,14 @@ impl<B: DatabaseName> Shared<B> {
     {
         let sequencer = SequencerAt::new(alloc, &book, config.proxies, resolvers);
         let logs_and_shards = make_logs_and_shards(alloc, &book, config, tags);
-        let commits = make_commits(alloc, &book, config, resolvers);
+        let tied = make_tied(rt, alloc, &book, config, resolvers);
         let begins = make_begins(alloc, config.proxies);
-        let resolvers = make_resolvers(alloc, &book, resolvers, config.proxies);
-        let (sequencer, (logs_and_shards, (resolvers, (commits, begins)))) = both(
+        let (sequencer, (logs_and_shards, (tied, begins))) = both(
             sequencer,
-            both(logs_and_shards, both(resolvers, both(commits, begins))),
+            both(logs_and_shards, both(tied, begins)),
         )?;
         let (shard_map, logs, shards) = logs_and_shards;
+        let (resolvers, commits) = tied;
         Ok(Shared {
             alloc,
             book,
@@ -324,20 +324,43 @@ fn make_shards<B: DatabaseName>(
     Ok(made)
 }
 
-// The commit proxies, which nobody has asked. Refused only as `NoMemory`.
-fn make_commits<B: DatabaseName>(
+// The resolvers and the commit proxies, which took nothing, and of which each is tied to each by a channel for verdicts.
+// Refused only as `NoMemory`.
+fn make_tied<B: DatabaseName, R: Wait>(
+    rt: &R,
     alloc: Global,
     book: &Book<B>,
     config: &Config,
     resolvers: u32,
+) -> Result<(Vec<SharedResolver<B>>, Vec<SharedCommitProxy<B>>), Refusal>
+    requires config { config.now ≡ B.config }
+    requires legal { config_fault B.config ≡ None }
+    requires resolvers { resolvers ≡ suc (length B.config.resolver_splits) }
+    ensures { Answers result None (λ _. ⊤) }
+{
+    let mut roles = resolver_roles(alloc, book, resolvers)?;
+    let commits = make_commits(rt, alloc, book, config, resolvers, roles.as_mut_slice());
+    both(share_all(alloc, roles), commits)
+}
+
+// The commit proxies, which nobody has asked, and which are tied to the resolvers. Refused only as `NoMemory`.
+fn make_commits<B: DatabaseName, R: Wait>(
+    rt: &R,
+    alloc: Global,
+    book: &Book<B>,
+    config: &Config,
+    resolvers: u32,
+    roles: &mut [ResolverRole<B>],
 ) -> Result<Vec<SharedCommitProxy<B>>, Refusal>
     requires config { config.now ≡ B.config }
     requires legal { config_fault B.config ≡ None }
+    requires resolvers { length roles.old ≡ resolvers }
     ensures { Answers result None (λ _. ⊤) }
 {
     let mut made = Vec::with_capacity(alloc, config.proxies as usize)?;
     for number in 0..config.proxies {
-        let role = CommitRole::new(alloc, book, number, config, resolvers)?;
+        let verdicts = tie_all(rt, alloc, roles)?;
+        let role = CommitRole::new(alloc, book, number, config, resolvers, verdicts)?;
         made.push(SharedRole::new(alloc, role))?;
     }
     Ok(made)
@@ -357,76 +380,34 @@ fn make_begins<B: DatabaseName>(
     Ok(made)
 }
 
-// The resolvers, each of which took nothing, with room for the parts of so many commit proxies. Refused only as
-// `NoMemory`.
-fn make_resolvers<B: DatabaseName>(
+// The resolvers, each of which took nothing, and is tied to no commit proxy yet. Refused only as `NoMemory`.
+fn resolver_roles<B: DatabaseName>(
     alloc: Global,
     book: &Book<B>,
     resolvers: u32,
-    proxies: u32,
-) -> Result<Vec<SharedResolver<B>>, Refusal>
+) -> Result<Vec<ResolverRole<B>>, Refusal>
     requires { resolvers ≡ suc (length B.config.resolver_splits) }
-    ensures { Answers result None (λ _. ⊤) }
+    ensures answers { Answers result None (λ _. ⊤) }
+    ensures count { IfOk result (λ roles. length roles.items ≡ resolvers) }
 {
     let mut made = Vec::with_capacity(alloc, resolvers as usize)?;
     for number in 0..resolvers {
         let at = ResolverAt::new(alloc, book, number)?;
-        made.push(share_resolver(alloc, number, at, proxies as usize)?)?;
+        made.push(ResolverRole::new(alloc, number, at))?;
     }
     Ok(made)
 }
 
-/// Ties each commit proxy to each resolver, by a channel for verdicts, before any thread works with them. Refused only
-/// as `NoMemory`.
-pub(crate) fn tie_all<B: DatabaseName, R: Wait>(rt: &R, shared: &Shared<B>) -> Result<(), Refusal>
+// The resolvers, which threads share from now on. Refused only as `NoMemory`.
+fn share_all<B: DatabaseName>(
+    alloc: Global,
+    roles: Vec<ResolverRole<B>>,
+) -> Result<Vec<SharedResolver<B>>, Refusal>
     ensures { Answers result None (λ _. ⊤) }
 {
-    for proxy in shared.commits() {
-        tie_one(rt, shared, proxy)?;
+    let mut made = Vec::with_capacity(alloc, roles.len())?;
+    for role in roles {
+        made.push(share_resolver(alloc, role)?)?;
     }
-    Ok(())
-}
-
-// Ties the next commit proxy to all resolvers. Refused only as `NoMemory`.
-fn tie_one<B: DatabaseName, R: Wait>(
-    rt: &R,
-    shared: &Shared<B>,
-    proxy: &SharedCommitProxy<B>,
-) -> Result<(), Refusal>
-    ensures { Answers result None (λ _. ⊤) }
-{
-    for resolver in shared.resolvers() {
-        let (to, from) = roomy(rt, shared.alloc, 1)?;
-        tie_verdicts_to(rt, proxy, from)?;
-        tie_verdicts_of(rt, resolver, to)?;
-    }
-    Ok(())
-}
-
-// The commit proxy receives verdicts from there. Refused only as `NoMemory`.
-fn tie_verdicts_to<B: DatabaseName, R: Wait>(
-    rt: &R,
-    proxy: &SharedCommitProxy<B>,
-    from: Receiver<Option<VerdictMessage<B>>>,
-) -> Result<(), Refusal>
-    ensures { Answers result None (λ _. ⊤) }
-{
-    match &mut proxy.lock(rt).resting {
-        Some(busy) => busy.role.tie(from),
-        None => Ok(()),
-    }
-}
-
-// The resolver sends verdicts there. Refused only as `NoMemory`.
-fn tie_verdicts_of<B: DatabaseName, R: Wait>(
-    rt: &R,
-    resolver: &SharedResolver<B>,
-    to: Sender<Option<VerdictMessage<B>>>,
-) -> Result<(), Refusal>
-    ensures { Answers result None (λ _. ⊤) }
-{
-    match &mut resolver.lock(rt).resting {
-        Some(busy) => busy.role.tie(to),
-        None => Ok(()),
-    }
+    Ok(made)
 }

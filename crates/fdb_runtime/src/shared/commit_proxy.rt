@@ -1,5 +1,5 @@
 //! A commit proxy that threads share.
-ghost use Rattle.std.specs.Prelude.{◌≡◌, ◌<◌, ⊤, None};
+ghost use Rattle.std.specs.Prelude.{◌≡◌, ◌<◌, [], ⊤, length, None};
 ghost use Rattle.fdb_keys.specs.Answers.{Answers};
 ghost use Rattle.fdb_proxy.specs.Configs.{config_fault};
 
@@ -39,38 +39,29 @@ pub(crate) struct CommitRole<B: DatabaseName> {
 }
 
 impl<B: DatabaseName> CommitRole<B> {
-    /// The commit proxy with the number, which nobody has asked, of so many resolvers, none of which is tied to it yet.
-    /// Refused only as `NoMemory`.
+    /// The commit proxy with the number, which nobody has asked, of so many resolvers, from each of which its verdicts
+    /// come at one of these ends, in the order of their numbers. Refused only as `NoMemory`.
     pub(crate) fn new(
         alloc: Global,
         book: &Book<B>,
         number: u32,
         config: &Config,
         resolvers: u32,
+        verdicts: Vec<Receiver<Option<VerdictMessage<B>>>>,
     ) -> Result<Self, Refusal>
         requires config { config.now ≡ B.config }
         requires legal { config_fault B.config ≡ None }
         requires number { number < config.now.proxies }
+        requires tied { length verdicts.items ≡ resolvers }
         ensures { Answers result None (λ _. ⊤) }
     {
         let machine = CommitMachine::new(alloc, book, number, config, resolvers)?;
         Ok(CommitRole {
             number,
             machine,
-            verdicts: Vec::new(alloc),
+            verdicts,
             taken: 0,
         })
-    }
-
-    /// Ties the next resolver to the commit proxy, by the channel for its verdicts. Refused only as `NoMemory`.
-    pub(crate) fn tie(
-        &mut self,
-        verdicts: Receiver<Option<VerdictMessage<B>>>,
-    ) -> Result<(), Refusal>
-        ensures { Answers result None (λ _. ⊤) }
-    {
-        self.verdicts.push(verdicts)?;
-        Ok(())
     }
 
     // Takes a request, or answers why it is refused.

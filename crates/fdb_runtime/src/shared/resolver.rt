@@ -1,34 +1,58 @@
 //! A resolver that threads share.
-ghost use Rattle.std.specs.Prelude.{◌≡◌, ⊤, None};
+ghost use Rattle.std.specs.Prelude.{◌≡◌, [], ⊤, length, None, IfOk};
 ghost use Rattle.fdb_keys.specs.Answers.{Answers};
 
 use crate::gate::{Pass, Role};
 use crate::shared::Shared;
 use crate::shared::role::{Act, Lent, SharedRole};
-use crate::threads::channel::send_to;
-use crossbeam_channel::Sender;
+use crate::threads::channel::{roomy, send_to};
+use crossbeam_channel::{Receiver, Sender};
 use fdb_keys::Refusal;
-use fdb_sections::{DatabaseName, ResolverAt, ResolverMachine, SentPart, VerdictMessage};
+use fdb_sections::{DatabaseName, ResolverAt, ResolverMachine, SentPart, VerdictMessage, both};
 use std::alloc::Global;
 use std::sync::Wait;
 
 /// A resolver that threads share. What waits for it are parts, of each commit proxy one at the most.
 pub(crate) type SharedResolver<B> = SharedRole<ResolverRole<B>, SentPart<B>>;
 
-/// The resolver with the number, which no commit proxy is tied to yet, with room for the parts of so many. Refused only
-/// as `NoMemory`.
+/// The resolver, which threads share from now on, with room for a part of each commit proxy that it is tied to. Refused
+/// only as `NoMemory`.
 pub(crate) fn share_resolver<B: DatabaseName>(
     alloc: Global,
-    number: u32,
-    at: ResolverAt<B>,
-    proxies: usize,
+    role: ResolverRole<B>,
 ) -> Result<SharedResolver<B>, Refusal>
     ensures { Answers result None (λ _. ⊤) }
 {
-    let waiting = Vec::with_capacity(alloc, proxies)?;
-    let items = Vec::with_capacity(alloc, proxies)?;
-    let role = ResolverRole::new(alloc, number, at);
+    let proxies = role.verdicts.len();
+    let waiting = room_for(alloc, proxies);
+    let items = room_for(alloc, proxies);
+    let (role, (waiting, items)) = both(Ok(role), both(waiting, items))?;
     Ok(SharedRole::with_room(role, waiting, items))
+}
+
+// Room for so many. Refused only as `NoMemory`.
+fn room_for<T>(alloc: Global, count: usize) -> Result<Vec<T>, Refusal>
+    ensures { Answers result None (λ _. ⊤) }
+{
+    Ok(Vec::with_capacity(alloc, count)?)
+}
+
+/// Ties one more commit proxy to all of the resolvers, each by a channel for its verdicts, and gives the ends at which
+/// these come, in the order of the resolvers. Refused only as `NoMemory`.
+pub(crate) fn tie_all<B: DatabaseName, R: Wait>(
+    rt: &R,
+    alloc: Global,
+    resolvers: &mut [ResolverRole<B>],
+) -> Result<Vec<Receiver<Option<VerdictMessage<B>>>>, Refusal>
+    ensures answers { Answers result None (λ _. ⊤) }
+    ensures each { IfOk result (λ ends. length ends.items ≡ length resolvers.old) }
+    ensures same { length resolvers.new ≡ length resolvers.old }
+{
+    let mut ends = Vec::with_capacity(alloc, resolvers.len())?;
+    for resolver in resolvers.iter_mut() {
+        ends.push(resolver.tie(rt, alloc)?)?;
+    }
+    Ok(ends)
 }
 
 /// A resolver, and the channels for its verdicts.
@@ -41,8 +65,8 @@ pub(crate) struct ResolverRole<B: DatabaseName> {
 }
 
 impl<B: DatabaseName> ResolverRole<B> {
-    // The resolver with the number, which no commit proxy is tied to yet. It takes no memory.
-    fn new(alloc: Global, number: u32, at: ResolverAt<B>) -> Self {
+    /// The resolver with the number, which no commit proxy is tied to yet. It takes no memory.
+    pub(crate) fn new(alloc: Global, number: u32, at: ResolverAt<B>) -> Self {
         ResolverRole {
             number,
             machine: ResolverMachine::new(alloc, at),
@@ -50,12 +74,18 @@ impl<B: DatabaseName> ResolverRole<B> {
         }
     }
 
-    /// Ties the next commit proxy to the resolver, by the channel for its verdicts. Refused only as `NoMemory`.
-    pub(crate) fn tie(&mut self, verdicts: Sender<Option<VerdictMessage<B>>>) -> Result<(), Refusal>
+    // Ties the next commit proxy to the resolver, by a channel for verdicts, and gives the end at which these come.
+    // Refused only as `NoMemory`.
+    fn tie<R: Wait>(
+        &mut self,
+        rt: &R,
+        alloc: Global,
+    ) -> Result<Receiver<Option<VerdictMessage<B>>>, Refusal>
         ensures { Answers result None (λ _. ⊤) }
     {
-        self.verdicts.push(verdicts)?;
-        Ok(())
+        let (to, from) = roomy(rt, alloc, 1)?;
+        self.verdicts.push(to)?;
+        Ok(from)
     }
 
     // Takes the part, and answers all parts whose turn has come.

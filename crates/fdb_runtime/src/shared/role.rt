@@ -1,5 +1,5 @@
 // A role that threads share: its own thread works with it, or one that waits for what it does.
-ghost use Rattle.std.specs.Prelude.{◌≡◌, [], IfErr, OnOk};
+ghost use Rattle.std.specs.Prelude.{◌≡◌, [], IfErr};
 
 use crate::gate::Pass;
 use crate::shared::Shared;
@@ -8,7 +8,7 @@ use crate::shared::waiting::{take_lock, wait_while};
 use fdb_keys::{Refusal, Refused};
 use fdb_sections::{DatabaseName, Inbox};
 use std::alloc::Global;
-use std::sync::{Condvar, Mutex, MutexGuard, Wait};
+use std::sync::{Condvar, Mutex, Wait};
 use std::thread::yield_now;
 
 // How often who asks does all that waits, before the role's thread goes on with that.
@@ -23,14 +23,14 @@ pub(crate) struct Lent<'a, B: DatabaseName, G: Pass> {
 
 /// What a role does with what comes for it.
 pub(crate) trait Act<B: DatabaseName, T>: Drop {
-    /// Does all of it, and leaves nothing of it. Refused where the role fails.
+    /// Does all of it, and leaves nothing of it, also where it is refused: then the role fails.
     fn act<R: Wait, G: Pass>(
         &mut self,
         rt: &R,
         lent: &Lent<'_, B, G>,
         items: &mut Vec<T>,
     ) -> Result<(), Refusal>
-        ensures { OnOk result (items.new.items ≡ []) };
+        ensures { items.new.items ≡ [] };
 
     /// The role has failed: nobody waits for it for ever.
     fn fail<R: Wait>(&mut self, rt: &R, shared: &Shared<B>);
@@ -126,11 +126,6 @@ impl<W: Drop, T: Drop> SharedRole<W, T> {
         true
     }
 
-    /// Lends the place as it is, before any thread works with the role.
-    pub(crate) fn lock<'a, R: Wait>(&'a self, rt: &R) -> MutexGuard<'a, Place<W, T>> {
-        take_lock(rt, &self.place)
-    }
-
     // Nothing comes any more, for the first reason that was given. It gives what waits, and takes no memory.
     fn close<R: Wait>(&self, rt: &R, why: Refusal) -> Vec<T> {
         let waiting = take_lock(rt, &self.place).inbox.end(why);
@@ -206,13 +201,15 @@ fn go_on<B: DatabaseName, T: Drop, W: Act<B, T>, G: Pass, R: Wait>(
     role.come_back(rt, worked(rt, lent, role, busy))
 }
 
-// Does what the role is to do. Where it fails, it has ended.
+// Does what the role is to do, and leaves nothing of it. Where the role fails, it has ended.
 fn worked<B: DatabaseName, T: Drop, W: Act<B, T>, G: Pass, R: Wait>(
     rt: &R,
     lent: &Lent<'_, B, G>,
     role: &SharedRole<W, T>,
     busy: Busy<W, T>,
-) -> Busy<W, T> {
+) -> Busy<W, T>
+    ensures { result.loaded.items.items ≡ [] }
+{
     let mut busy = busy;
     let its = &mut busy.loaded;
     if its.role.act(rt, lent, &mut its.items).is_err() {
