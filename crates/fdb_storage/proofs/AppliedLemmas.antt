@@ -10,7 +10,7 @@ use Rattle.fdb_log.specs.declared.peek.Peek.{Peek}
 use Rattle.fdb_log.specs.Peeks.{RiseAfter, IsPeek, through_after}
 use Rattle.fdb_storage.specs.Shards.{Shard, IsShard, HasApplied}
 use Rattle.fdb_storage.specs.Changes.{HaveFollowed}
-use Rattle.fdb_storage.specs.VersionMaps.{VersionedKeys, value_of, EndBy}
+use Rattle.fdb_storage.specs.VersionMaps.{VersionedKeys, value_of, EndBy, HaveLive}
 use Rattle.fdb_storage.proofs.VersionsLemmas.{value-ended}
 
 -- messages that rise after a version go through one that isn't below it
@@ -33,9 +33,9 @@ value-above v x value after (message ∷ messages) rising below =
     ∙ value-above v x value message.version messages rising.1 (omega (arith, here, below))
 
 -- a shard that works, and followed the messages of a peek from its version on
-module _ (shard : Shard) (peek : Peek) (keys : VersionedKeys) (is_peek : IsPeek peek)
+module _ (shard : Shard) (peek : Peek) (keys : VersionedKeys) (live : List Point) (is_peek : IsPeek peek)
     (after : peek.after ≡ shard.version) (works : shard.is_failed ≡ false)
-    (is_shard : IsShard shard.version shard.floor shard.is_failed shard.keys)
+    (is_shard : IsShard shard.version shard.floor shard.is_failed shard.keys live)
     (followed : HaveFollowed shard.range shard.version peek.messages shard.keys keys) where
   pub rising : RiseAfter shard.version peek.messages
   rising = subst (λ (v : ℕ). RiseAfter v peek.messages) after is_peek.rising
@@ -43,13 +43,15 @@ module _ (shard : Shard) (peek : Peek) (keys : VersionedKeys) (is_peek : IsPeek 
   through : peek.through ≡ through_after shard.version peek.messages
   through = is_peek.through ∙ ap (λ (v : ℕ). through_after v peek.messages) after
 
-  pub still_shard : IsShard peek.through shard.floor shard.is_failed keys
-  still_shard =
+  pub still_shard : (noted : List Point) → HaveLive keys noted
+      → IsShard peek.through shard.floor shard.is_failed keys noted
+  still_shard noted have_live =
       let further = through-reaches shard.version peek.messages rising in
       record {
         serves = omega (arith, further, through, is_shard.serves);
         within = λ still. subst (λ (v : ℕ). EndBy v keys) (sym through) followed.end_by;
         legal_keys = λ still. followed.legal_keys;
+        live = λ still. have_live;
       }
 
   pub has_applied : (new : Shard) → new ≡ record shard { version = peek.through; keys = keys }

@@ -2,7 +2,7 @@
 use Rattle.std.proofs.Common.{◌≡◌, ◌∙◌, sym, ap, refl, subst, ℕ, zero, suc, get_or, take, length, ◌≤◌, ◌<◌, nat_le}
 use Rattle.std.proofs.Common.{Bool, true, false, ◌||◌}
 use Rattle.std.proofs.Common.{List, [], ◌∷◌, ◌++◌, Option, Some, None, is_some, if◌then◌else◌, arith}
-use Rattle.std.specs.Prelude.{◌&&◌}
+use Rattle.std.specs.Prelude.{◌&&◌, OnOk}
 use Rattle.std.proofs.Common.{Result, Ok, Err}
 use Rattle.std.specs.List.{list_any}
 use Rattle.std.proofs.lemmas.Bool.{both_ways, cond-false, leb-true}
@@ -229,3 +229,9 @@ pub answers-then : {T : Type 0} (result : Result T Refusal) (P Q : Type 0) → (
     → Answers result None (λ _. P) → Answers result None (λ _. Q)
 answers-then (Ok given) P Q step holds = step holds
 answers-then (Err why) P Q step ran_out = ran_out
+
+-- what is answered where nothing is refused
+pub on_ok-answers : {T : Type 0} (result : Result T Refusal) (P : Type 0) → Answers result None (λ _. P)
+    → OnOk result P
+on_ok-answers (Ok given) P holds = holds
+on_ok-answers (Err why) P ran_out = tt

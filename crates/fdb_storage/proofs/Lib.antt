@@ -7,6 +7,7 @@ mod CutLemmas
 mod FaultLemmas
 mod ForgottenLemmas
 mod LentLemmas
+mod LiveLemmas
 mod LogMessagesLemmas
 mod PagesLemmas
 mod PairsLemmas

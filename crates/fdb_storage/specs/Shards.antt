@@ -16,7 +16,7 @@ use Rattle.fdb_log.specs.declared.peek.Peek.{Peek}
 use Rattle.fdb_mutations.specs.declared.page.Page.{Page}
 use Rattle.fdb_storage.specs.StampedMessages.{stamped_fault}
 use Rattle.fdb_storage.specs.VersionLists.{kept_from}
-use Rattle.fdb_storage.specs.VersionMaps.{VersionedKeys, value_of, EndBy, HaveLegalKeys}
+use Rattle.fdb_storage.specs.VersionMaps.{VersionedKeys, value_of, EndBy, HaveLegalKeys, HaveLive}
 
 -- its tag and its range, the greatest version and the least that it serves, whether memory ran out, and its keys with
 -- their versions
@@ -28,12 +28,13 @@ pub record Shard : Type 0 where
   pub is_failed : Bool
   pub keys : VersionedKeys
 
--- Between two calls: its floor isn't above its version, and unless memory ran out, no version of a key is, and its keys
--- are legal ones.
-pub record IsShard (version floor : ℕ) (is_failed : Bool) (keys : VersionedKeys) : Type 0 where
+-- Between two calls: its floor isn't above its version, and unless memory ran out, no version of a key is, its keys are
+-- legal ones, and the points are the keys at which something stands from their newest version on.
+pub record IsShard (version floor : ℕ) (is_failed : Bool) (keys : VersionedKeys) (points : List Point) : Type 0 where
   pub serves : floor ≤ version
   pub within : is_failed ≡ false → EndBy version keys
   pub legal_keys : is_failed ≡ false → HaveLegalKeys keys
+  pub live : is_failed ≡ false → HaveLive keys points
 
 -- what a shard answers at a version and a point of its range
 abbrev pub value_at : Shard → ℕ → Point → Option (List ℕ)

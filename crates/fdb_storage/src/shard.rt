@@ -38,7 +38,8 @@ impl Model for Shard {
       keys = shard.map.keys.entries;
     } };
 
-    ghost invariant = { λ shard. IsShard shard.version shard.floor shard.is_failed shard.map.keys.entries };
+    ghost invariant = { λ shard. IsShard shard.version shard.floor shard.is_failed shard.map.keys.entries
+        shard.map.live.keys };
 }
 
 impl Shard {
@@ -72,7 +73,7 @@ impl Shard {
     /// with the version after which they begin where that is a later one, and as `NoMemory`. The shard stays as it was
     /// where it is refused, but for `NoMemory`, after which it has failed. A mutation of a key takes O(log n)
     /// comparisons for n keys and versions, and one that clears a range as many and O(log n) for each key that it
-    /// clears.
+    /// clears, whatever was cleared there before.
     pub fn apply(&mut self, peek: &Peek) -> Result<(), Refusal>
         requires { IsPeek peek.now }
         ensures answers { Answers result (apply_fault self.old peek.now) (λ _. HasApplied self.old peek.now self.new) }

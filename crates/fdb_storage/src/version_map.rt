@@ -1,8 +1,9 @@
 // Keys in their order, each with its versions.
-ghost use Rattle.std.specs.Prelude.{◌≡◌, ◌≤◌, ◌++◌, ◌∷◌, [], ℕ, None, IfSome, OnOk, is_some, if◌then◌else◌};
+ghost use Rattle.std.specs.Prelude.{◌≡◌, ◌≤◌, [], ℕ, None, IfSome, OnOk, is_some};
 ghost use Rattle.fdb_keys.specs.Answers.{Answers};
 ghost use Rattle.fdb_mutations.specs.Mutations.{new_value};
 ghost use Rattle.fdb_storage.specs.VersionLists.{newest_of, value_up_to, AreUpTo};
+ghost use Rattle.fdb_storage.specs.VersionMaps.{HaveNoted};
 ghost use Rattle.fdb_storage.specs.Changes.{HavePut};
 
 use crate::due_keys::DueKeys;
@@ -12,11 +13,14 @@ use fdb_interval::{KeyedRange, PointKey};
 use fdb_keys::{Key, KeyRange, Refusal};
 use fdb_mutations::Mutation;
 use std::alloc::{AllocError, Global};
-use std::collections::BTreeMap;
+use std::collections::{BTreeMap, BTreeSet};
 
 #[derive(Drop)]
 pub(crate) struct VersionMap {
     pub(crate) keys: BTreeMap<PointKey, VersionList>,
+    // The keys at which something stands from their newest version on. What clears a range goes by these, and so meets
+    // none of those that were cleared before and aren't forgotten yet.
+    pub(crate) live: BTreeSet<PointKey>,
     // The keys that have versions to drop. Each is there once, and not for each of its versions: at the version at
     // which half of those that it had can go. So it is looked up once for several versions, and has at most about twice
     // as many as are needed.
@@ -34,16 +38,18 @@ impl VersionMap {
     ghost use Rattle.fdb_storage.specs.VersionLists.{newest_of, kept_from};
     ghost use Rattle.fdb_storage.specs.VersionMaps.{versions_at};
     ghost use Rattle.fdb_storage.specs.Changes.{HaveChanged, new_at};
-    ghost use Rattle.fdb_storage.specs.VersionMaps.{found, versions_of, value_of, EndBy, HaveLegalKeys};
+    ghost use Rattle.fdb_storage.specs.VersionMaps.{found, versions_of, value_of, EndBy, HaveLegalKeys, HaveLive};
     ghost use Rattle.fdb_storage.specs.Changes.{put_at};
     ghost use Rattle.fdb_storage.specs.VersionMaps.{HaveForgotten};
 
     /// The map of no keys. It takes no memory.
     pub(crate) fn new(alloc: Global) -> Self
-        ensures { result.keys.entries ≡ [] }
+        ensures empty { result.keys.entries ≡ [] }
+        ensures live { HaveLive result.keys.entries result.live.keys }
     {
         VersionMap {
             keys: BTreeMap::new(alloc),
+            live: BTreeSet::new(alloc),
             due: DueKeys::new(alloc),
         }
     }
@@ -106,7 +112,8 @@ impl VersionMap {
     }
 
     /// Applies a mutation of the key from the version on, in O(log n) comparisons for n keys and versions: a key that
-    /// is there is looked up once. Refused only as `NoMemory`.
+    /// is there is looked up once, and once more where something begins or ceases to stand there. Refused only as
+    /// `NoMemory`.
     pub(crate) fn change(
         &mut self,
         alloc: Global,
@@ -116,12 +123,22 @@ impl VersionMap {
     ) -> Result<(), Refusal>
         requires ended { EndBy version self.old.keys.entries }
         requires legal_keys { HaveLegalKeys self.old.keys.entries }
-        ensures { Answers result None (λ _. HaveChanged version (new_at key.now mutation.now)
+        requires live { HaveLive self.old.keys.entries self.old.live.keys }
+        ensures changed { Answers result None (λ _. HaveChanged version (new_at key.now mutation.now)
             self.old.keys.entries self.new.keys.entries) }
+        ensures live { OnOk result (HaveLive self.new.keys.entries self.new.live.keys) }
     {
         let point = PointKey::at(key)?;
         if let Some(versions) = self.keys.get_mut(&point) {
-            return change_in(alloc, versions, &mut self.due, version, point, mutation);
+            return change_in(
+                alloc,
+                versions,
+                &mut self.live,
+                &mut self.due,
+                version,
+                point,
+                mutation,
+            );
         }
         let value = mutation.apply_value(alloc, None)?;
         self.put_first(alloc, version, point, value)?;
@@ -138,11 +155,15 @@ impl VersionMap {
     ) -> Result<(), AllocError>
         requires ended { EndBy version self.old.keys.entries }
         requires legal_keys { HaveLegalKeys self.old.keys.entries }
+        requires live { HaveLive self.old.keys.entries self.old.live.keys }
         requires legal { IsTrue (is_key key) }
         requires absent { found self.old.keys.entries key ≡ None }
-        ensures { OnOk result (HaveChanged version (put_at key value) self.old.keys.entries self.new.keys.entries) }
+        ensures changed { OnOk result (HaveChanged version (put_at key value)
+            self.old.keys.entries self.new.keys.entries) }
+        ensures live { OnOk result (HaveLive self.new.keys.entries self.new.live.keys) }
     {
         if value.is_some() {
+            self.live.insert(key.clone()?)?;
             let mut versions = VersionList::new(alloc);
             versions.put(version, value)?;
             self.keys.insert(key, versions)?;
@@ -151,32 +172,37 @@ impl VersionMap {
     }
 
     /// Lets nothing stand at the key from the version on, if it is there, in O(log n) comparisons for n keys and
-    /// versions.
+    /// versions: it is looked up once, and once more where something stood there.
     pub(crate) fn clear(&mut self, version: u64, key: &PointKey) -> Result<(), AllocError>
         requires ended { EndBy version self.old.keys.entries }
         requires legal_keys { HaveLegalKeys self.old.keys.entries }
-        ensures { OnOk result (HaveChanged version (put_at key.now None) self.old.keys.entries self.new.keys.entries) }
+        requires live { HaveLive self.old.keys.entries self.old.live.keys }
+        ensures changed { OnOk result (HaveChanged version (put_at key.now None)
+            self.old.keys.entries self.new.keys.entries) }
+        ensures live { OnOk result (HaveLive self.new.keys.entries self.new.live.keys) }
     {
         if let Some(versions) = self.keys.get_mut(key) {
-            return put_in(versions, &mut self.due, version, key.clone()?, None);
+            let key = key.clone()?;
+            return put_in(versions, &mut self.live, &mut self.due, version, key, None);
         }
         Ok(())
     }
 
     /// The keys of the range at which something stands from their newest version on, in O(log n) comparisons for n keys
-    /// and O(1) for each key there.
+    /// and O(1) for each of these. No other key of the range is met.
     pub(crate) fn live_in(
         &self,
         alloc: Global,
         range: &KeyRange,
     ) -> Result<Vec<PointKey>, AllocError>
+        requires { HaveLive self.now.keys.entries self.now.live.keys }
         ensures { IfOk result (λ keys. (x : Point) → list_any (point_eq x) keys.items
             ≡ (in_range range.now x && is_some (newest_of (versions_at self.now.keys.entries x)))) }
     {
         let keyed = KeyedRange::new(range)?;
         let mut keys = Vec::new(alloc);
-        for (key, versions) in self.keys.range(keyed.begin()..keyed.end()) {
-            push_live(&mut keys, key, versions)?;
+        for key in self.live.range(keyed.begin()..keyed.end()) {
+            keys.push(key.clone()?)?;
         }
         Ok(keys)
     }
@@ -184,7 +210,8 @@ impl VersionMap {
     /// Drops what no version from the floor on shows of each key of which that is at least about half. It takes no
     /// memory, O(log n) comparisons for n keys and versions and each such key, and O(1) amortised for each version.
     pub(crate) fn forget(&mut self, floor: u64)
-        ensures { HaveForgotten floor self.old.keys.entries self.new.keys.entries }
+        ensures forgotten { HaveForgotten floor self.old.keys.entries self.new.keys.entries }
+        ensures live { self.new.live ≡ self.old.live }
     {
         for _count in 0..self.due.len() {
             match self.due.next(floor) {
@@ -196,7 +223,8 @@ impl VersionMap {
 
     // The same of these keys, which were taken off those that are due.
     fn trim_all(&mut self, keys: Vec<PointKey>, floor: u64)
-        ensures { HaveForgotten floor self.old.keys.entries self.new.keys.entries }
+        ensures forgotten { HaveForgotten floor self.old.keys.entries self.new.keys.entries }
+        ensures live { self.new.live ≡ self.old.live }
     {
         for key in keys {
             self.trim(key, floor);
@@ -205,7 +233,8 @@ impl VersionMap {
 
     // Drops what no version from the floor on shows of the key, and the key where nothing is left of it.
     fn trim(&mut self, key: PointKey, floor: u64)
-        ensures { HaveForgotten floor self.old.keys.entries self.new.keys.entries }
+        ensures forgotten { HaveForgotten floor self.old.keys.entries self.new.keys.entries }
+        ensures live { self.new.live ≡ self.old.live }
     {
         if let Some(emptied) = self.trim_versions(key, floor) {
             self.keys.remove(&emptied);
@@ -216,6 +245,7 @@ impl VersionMap {
     fn trim_versions(&mut self, key: PointKey, floor: u64) -> Option<PointKey>
         ensures forgotten { HaveForgotten floor self.old.keys.entries self.new.keys.entries }
         ensures none { IfSome result (λ emptied. versions_at self.new.keys.entries emptied ≡ []) }
+        ensures live { self.new.live ≡ self.old.live }
     {
         match self.keys.get_mut(&key) {
             Some(versions) => trim_in(versions, &mut self.due, key, floor),
@@ -228,36 +258,66 @@ impl VersionMap {
 fn change_in(
     alloc: Global,
     versions: &mut VersionList,
+    live: &mut BTreeSet<PointKey>,
     due: &mut DueKeys,
     version: u64,
     key: PointKey,
     mutation: &Mutation,
 ) -> Result<(), Refusal>
     requires { AreUpTo version versions.old }
-    ensures { Answers result None (λ _. HavePut version (new_value mutation.now (newest_of versions.old))
+    ensures put { Answers result None (λ _. HavePut version (new_value mutation.now (newest_of versions.old))
         versions.old versions.new) }
+    ensures live { OnOk result (HaveNoted key (is_some (newest_of versions.old))
+        (is_some (new_value mutation.now (newest_of versions.old))) live.old.keys live.new.keys) }
 {
     let value = mutation.apply_value(alloc, versions.newest())?;
-    put_in(versions, due, version, key, value)?;
+    put_in(versions, live, due, version, key, value)?;
     Ok(())
 }
 
 // Lets the value stand at the key, whose versions these are, from the version on.
 fn put_in(
     versions: &mut VersionList,
+    live: &mut BTreeSet<PointKey>,
     due: &mut DueKeys,
     version: u64,
     key: PointKey,
     value: Option<Bytes>,
 ) -> Result<(), AllocError>
     requires { AreUpTo version versions.old }
-    ensures { OnOk result (HavePut version value versions.old versions.new) }
+    ensures put { OnOk result (HavePut version value versions.old versions.new) }
+    ensures live { OnOk result (HaveNoted key (is_some (newest_of versions.old)) (is_some value)
+        live.old.keys live.new.keys) }
 {
+    note_live(live, &key, versions, &value)?;
     versions.put(version, value)?;
     due.make_room(version)?;
     if versions.len() != 1 && !versions.is_due() {
         note_due(versions, due, version, key);
     }
+    Ok(())
+}
+
+// Notes whether something stands at the key, whose versions these are, once the value does. Where that was so before,
+// nothing is looked up.
+fn note_live(
+    live: &mut BTreeSet<PointKey>,
+    key: &PointKey,
+    versions: &VersionList,
+    value: &Option<Bytes>,
+) -> Result<(), AllocError>
+    ensures { OnOk result (HaveNoted key.now (is_some (newest_of versions.now)) (is_some value.now)
+        live.old.keys live.new.keys) }
+{
+    let stood = versions.newest().is_some();
+    if stood == value.is_some() {
+        return Ok(());
+    }
+    if stood {
+        live.remove(key);
+        return Ok(());
+    }
+    live.insert(key.clone()?)?;
     Ok(())
 }
 
@@ -296,19 +356,4 @@ fn note_due(versions: &mut VersionList, due: &mut DueKeys, version: u64, key: Po
     ensures { versions.new ≡ versions.old }
 {
     versions.set_due(due.note(version, key));
-}
-
-// Adds the key if something stands there from its newest version on.
-fn push_live(
-    keys: &mut Vec<PointKey>,
-    key: &PointKey,
-    versions: &VersionList,
-) -> Result<(), AllocError>
-    ensures { OnOk result (keys.new.items
-        ≡ keys.old.items ++ (if is_some (newest_of versions.now) then key.now ∷ [] else [])) }
-{
-    if versions.newest().is_some() {
-        keys.push(key.clone()?)?;
-    }
-    Ok(())
 }

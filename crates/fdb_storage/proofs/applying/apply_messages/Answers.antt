@@ -16,11 +16,14 @@ apply_body-requires-clause-ended c =
     rising-at c.args.version c.args.messages.now c.loop-message.message-index message c.requires.rising (omega arith)
     c.message-item.is in
     end_by-more before message.version c.loop-message.map.keys.entries (omega (arith, later))
-    c.loop-message.invariant.end_by
+    c.loop-message.invariant.followed.end_by
 
 pub loop-message-init : goal.loop-message-init
-loop-message-init c =
-    followed-none c.args.range.now c.args.version c.args.map.now.keys.entries c.requires.ended c.requires.legal_keys
+loop-message-init c = record {
+  followed =
+      followed-none c.args.range.now c.args.version c.args.map.now.keys.entries c.requires.ended c.requires.legal_keys;
+  live = c.requires.live;
+}
 
 pub loop-message-preserved : goal.loop-message-preserved
 loop-message-preserved c =
@@ -30,9 +33,14 @@ loop-message-preserved c =
     let more : take (i + 1) messages ≡ take i messages ++ message ∷ [] =
     take_more messages i message (omega arith)
     ∙ ap (λ (one : TagMsg). take i messages ++ one ∷ []) (sym c.message-item.is) in
-    subst (λ (some : List TagMsg). HaveFollowed c.args.range.now c.args.version some c.args.map.now.keys.entries
-    c.apply_body.new.map.keys.entries) (sym more)
-    (followed-more c.args.range.now c.args.version (take i messages) message c.args.map.now.keys.entries
-    c.loop-message.map.keys.entries c.apply_body.new.map.keys.entries c.loop-message.invariant
-    (subst (λ (body : Body). HaveChangedIn c.args.range.now message.version (changed_by (mutations_in body))
-    c.loop-message.map.keys.entries c.apply_body.new.map.keys.entries) c.as_slice.ensures c.in_ok-apply_body.ensures))
+    record {
+      followed =
+          subst (λ (some : List TagMsg). HaveFollowed c.args.range.now c.args.version some c.args.map.now.keys.entries
+          c.apply_body.new.map.keys.entries) (sym more)
+          (followed-more c.args.range.now c.args.version (take i messages) message c.args.map.now.keys.entries
+          c.loop-message.map.keys.entries c.apply_body.new.map.keys.entries c.loop-message.invariant.followed
+          (subst (λ (body : Body). HaveChangedIn c.args.range.now message.version (changed_by (mutations_in body))
+          c.loop-message.map.keys.entries c.apply_body.new.map.keys.entries) c.as_slice.ensures
+          c.in_ok-apply_body.ensures.changed));
+      live = c.in_ok-apply_body.ensures.live;
+    }

@@ -23,6 +23,7 @@ pub apply_messages-requires : goal.apply_messages-requires
 apply_messages-requires c = record {
   ended = c.self.invariant.within (works c);
   legal_keys = c.self.invariant.legal_keys (works c);
+  live = c.self.invariant.live (works c);
   rising = subst (λ (messages : List TagMsg). RiseAfter c.self.inside.version messages) (sym c.as_slice.ensures)
       (subst (λ (v : _). RiseAfter v c.args.peek.now.messages) (begins c) c.requires.rising);
 }
@@ -38,21 +39,23 @@ invariant_of-self c =
       is_failed = c.self.inside.is_failed;
       keys = c.self.inside.map.keys.entries;
     } in
-    still_shard shard c.args.peek.now c.apply_messages.new.map.keys.entries c.requires (begins here) (works here)
-    c.self.invariant
+    still_shard shard c.args.peek.now c.apply_messages.new.map.keys.entries c.self.inside.map.live.keys c.requires
+    (begins here) (works here) c.self.invariant
     (subst (λ (messages : List TagMsg). HaveFollowed shard.range shard.version messages shard.keys
-    c.apply_messages.new.map.keys.entries) c.as_slice.ensures c.in-Ok.ensures)
+    c.apply_messages.new.map.keys.entries) c.as_slice.ensures c.in-Ok.ensures.followed)
+    c.apply_messages.new.map.live.keys c.in-Ok.ensures.live
 
 pub returns-in-Ok-clause-answers : goal.returns-in-Ok-clause-answers
 returns-in-Ok-clause-answers c =
     let here = (goal.at.returns-in-Ok-clause-answers c).After-as_slice in
     let keys = c.apply_messages.new.map.keys.entries in
     given tt (apply_fault c.args.self.now c.args.peek.now) _ (none-of _ _ _ c.in_ok-check_peek.ensures)
-    (has_applied c.args.self.now c.args.peek.now keys c.requires (free here).1 (free here).0
-    (subst (λ (shard : Shard). IsShard shard.version shard.floor shard.is_failed shard.keys) c.self.view_is
+    (has_applied c.args.self.now c.args.peek.now keys c.self.inside.map.live.keys c.requires (free here).1 (free here).0
+    (subst (λ (shard : Shard). IsShard shard.version shard.floor shard.is_failed shard.keys
+    c.self.inside.map.live.keys) c.self.view_is
     c.self.invariant)
     (subst (λ (shard : Shard). HaveFollowed shard.range shard.version c.args.peek.now.messages shard.keys keys)
     c.self.view_is
     (subst (λ (messages : List TagMsg). HaveFollowed c.self.inside.range c.self.inside.version messages
-    c.self.inside.map.keys.entries keys) c.as_slice.ensures c.in-Ok.ensures))
+    c.self.inside.map.keys.entries keys) c.as_slice.ensures c.in-Ok.ensures.followed))
     _ (λ i. record (c.self.view_is i) { version = c.args.peek.now.through; keys = keys }))

@@ -1,6 +1,5 @@
 use Rattle.std.proofs.Common.{◌≡◌, ◌++◌}
-use Rattle.fdb_storage.proofs.BetweenLemmas.{live_keys}
 use Rattle.fdb_storage.proofs.version_map.VersionMap.live_in.Given as goal
 
 abbrev pub invariant-loop-key : goal.invariant-loop-key
-invariant-loop-key l = l.keys.items ++ live_keys l.key-iterator ≡ live_keys l.initial.key-iterator
+invariant-loop-key l = l.keys.items ++ l.key-iterator ≡ l.initial.key-iterator

@@ -1,4 +1,4 @@
-use Rattle.std.proofs.Common.{◌≡◌, ◌∙◌, sym, ap, subst, cond, List, [], Option, Some, None, IfSome, rules}
+use Rattle.std.proofs.Common.{◌≡◌, ◌∙◌, sym, ap, refl, subst, cond, List, [], Option, Some, None, IfSome, rules}
 use Rattle.std.specs.BTreeMap.{is_at}
 use Rattle.std.specs.Cmp.Lexicographic.{slice_cmp}
 use Rattle.std.specs.Ordering.{nat_cmp}
@@ -30,6 +30,7 @@ returns-in-Some c =
           (sym c.in-Some.ensures.value) c.trim_in.ensures.kept c.trim_in.ensures.up_to;
       none = emptied-at c.trim_in.result key c.trim_in.new.versions new
           (found-here key (Some c.trim_in.new.versions) old new there) c.trim_in.ensures.none;
+      live = refl;
     }
 
 pub returns-in-None : goal.returns-in-None
@@ -39,4 +40,5 @@ returns-in-None c =
       forgotten = subst (HaveForgotten c.args.floor c.args.self.now.keys.entries) (sym same)
           (forgotten-none c.args.floor c.args.self.now.keys.entries);
       none = tt;
+      live = refl;
     }
