@@ -219,12 +219,35 @@ module _ (kept : ℕ → Bool) (few : (tag : ℕ) → kept tag ≡ true → tag 
       let one = kept-found found in
       any-of_among test (kept_among kept tags) one.0 one.1 (passes one.0)
 
--- what is kept of some tags is among them
+-- what is kept of some tags is among them, and is kept
+pub kept-parts : (kept : ℕ → Bool) (tags : List ℕ) (tag : ℕ) → is_among (kept_among kept tags) tag ≡ true
+    → (is_among tags tag ≡ true) × (kept tag ≡ true)
+kept-parts kept tags tag among =
+    and_parts (is_among tags tag) (kept tag)
+    (picked-passes (λ (other : ℕ). is_among tags other && kept other) all_tags tag among)
+
 pub among-of_kept : (kept : ℕ → Bool) (tags : List ℕ) (tag : ℕ) → is_among (kept_among kept tags) tag ≡ true
     → is_among tags tag ≡ true
-among-of_kept kept tags tag among =
-    (and_parts (is_among tags tag) (kept tag)
-    (picked-passes (λ (other : ℕ). is_among tags other && kept other) all_tags tag among)).0
+among-of_kept kept tags tag among = (kept-parts kept tags tag among).0
+
+-- so one that a log keeps of them is one of as many as it has
+pub kept-low : (log logs count : ℕ) (tags : List ℕ) (tag : ℕ)
+    → is_among (kept_among (is_kept log logs count) tags) tag ≡ true → tag < count
+kept-low log logs count tags tag among =
+    ltb-true tag count (and_parts (nat_lt tag count) (log_of logs tag == log)
+    (kept-parts (is_kept log logs count) tags tag among).1).0
+
+-- one that is kept is among those kept of some just where it is among them
+pub among-kept : (kept : ℕ → Bool) (few : (tag : ℕ) → kept tag ≡ true → tag < tag_limit) (tags : List ℕ) (tag : ℕ)
+    → kept tag ≡ true → is_among (kept_among kept tags) tag ≡ is_among tags tag
+among-kept kept few tags tag here =
+    among-that (λ (other : ℕ). is_among tags other && kept other) tag (few tag here)
+    ∙ ap (λ (b : Bool). is_among tags tag && b) here
+    ∙ either (is_among tags tag)
+  where
+    either : (among : Bool) → (among && true) ≡ among
+    either true = refl
+    either false = refl
 
 -- a tag that a log keeps is one of those that there may be
 pub few-kept : (log logs tags : ℕ) → tags ≤ tag_limit → (tag : ℕ) → is_kept log logs tags tag ≡ true
@@ -306,6 +329,17 @@ bits-first n some fits =
     (ap (λ (bit : ℕ). bit == 1) (bit_at_clear_same w64 n first lowest.0))
     (λ tag low. ap (λ (bit : ℕ). bit == 1) (lowest.2 tag low))
     (λ tag low apart. ap (λ (bit : ℕ). bit == 1) (bit_at_clear_other w64 n first lowest.0 tag low apart))
+
+-- and isn't there any more
+pub bits-once : (n : ℕ) → 0 < n → n < 2 ^ 64
+    → is_among (tags_of_bits (bit_and n (bit_not w64 (1 * 2 ^ trailing_zeros w64 n % 2 ^ bits w64))))
+    (trailing_zeros w64 n) ≡ false
+bits-once n some fits =
+    let lowest = bit_at-trailing_zeros w64 n some fits in
+    let first = trailing_zeros w64 n in
+    let rest = bit_and n (bit_not w64 (1 * 2 ^ first % 2 ^ bits w64)) in
+    among-that (λ (tag : ℕ). bit_at rest tag == 1) first lowest.0
+    ∙ ap (λ (bit : ℕ). bit == 1) (bit_at_clear_same w64 n first lowest.0)
 
 -- there is no tag just where the number is 0
 pub bits-empty : (n : ℕ) → n < 2 ^ 64 → (n == 0) ≡ (length (tags_of_bits n) == 0)

@@ -45,11 +45,13 @@ abbrev pub StartsAbove : ℕ → List (ℕ × ℕ) → Type 0
 StartsAbove version [] = ⊤
 StartsAbove version (first ∷ places) = version < first.0
 
+-- the list of the tag, with the item at its end where the tag is one of these
+abbrev pub with_one : {A : Type 0} → A → List ℕ → List (List A) → ℕ → List A
+with_one one tags lists tag = if is_among tags tag then list_at lists tag ++ one ∷ [] else list_at lists tag
+
 -- the list of each tag that is kept, and is one of these, has one more item at its end
 abbrev pub AreAdded : {A : Type 0} → (ℕ → Bool) → A → List ℕ → (old new : List (List A)) → Type 0
-AreAdded kept one tags old new =
-    (tag : ℕ) → kept tag ≡ true
-    → list_at new tag ≡ (if is_among tags tag then list_at old tag ++ one ∷ [] else list_at old tag)
+AreAdded kept one tags old new = (tag : ℕ) → kept tag ≡ true → list_at new tag ≡ with_one one tags old tag
 
 -- Of each tag that is kept the places rise, and those of the mutations are among them that have the tag and that it
 -- hasn't popped.

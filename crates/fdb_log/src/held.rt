@@ -7,13 +7,12 @@ ghost use Rattle.std.specs.List.{AllByRecursion, list_any};
 ghost use Rattle.std.specs.List.Sorted.{IsStrictlySortedBy};
 ghost use Rattle.std.specs.Map.{keys_of, lookup};
 ghost use Rattle.std.specs.Option.{unwrap_or};
-ghost use Rattle.fdb_txn.specs.Limits.{tag_limit};
-ghost use Rattle.fdb_log.specs.Messages.{is_kept};
-ghost use Rattle.fdb_log.specs.Places.{AreAdded, AreRising, has_place, is_place, place_cmp, places_above};
-ghost use Rattle.fdb_log.specs.Waiting.{Waiting, kept_among, waits};
+ghost use Rattle.fdb_log.specs.Places.{AreRising, has_place, is_place, list_at, place_cmp, places_above, with_one};
+ghost use Rattle.fdb_log.specs.TagSets.{is_among};
+ghost use Rattle.fdb_log.specs.Waiting.{Waiting, waits};
 
-use crate::keeper::{Keeper, stands_before};
-use crate::message::{LogMsg, Tagged};
+use crate::keeper::{Keeper, kept_tags};
+use crate::message::LogMsg;
 use crate::places::Places;
 use crate::tag_set::TagSet;
 use std::alloc::{AllocError, Global};
@@ -44,7 +43,8 @@ impl Held {
     ghost use Rattle.fdb_txn.specs.Limits.{tag_limit};
     ghost use Rattle.fdb_log.specs.Waiting.{Waiting, ComesBefore, waits, waiting_of};
     ghost use Rattle.fdb_log.specs.Messages.{is_kept};
-    ghost use Rattle.fdb_log.specs.Places.{AreAdded, AreListed, AreRising, has_place, list_at, places_above};
+    ghost use Rattle.fdb_log.specs.Places.{AreListed, AreRising, has_place, list_at, places_above, with_one};
+    ghost use Rattle.fdb_log.specs.TagSets.{is_among};
 
     /// No mutation, of so many tags.
     pub(crate) fn new(alloc: Global, tags: u32) -> Result<Self, AllocError>
@@ -79,7 +79,7 @@ impl Held {
         for (index, sent) in message.body.as_slice().iter().enumerate() {
             let tags = kept_tags(keeper, sent);
             if !tags.is_empty() {
-                self.add_one(keeper, (message.version, index), sent, tags)?;
+                self.add_one((message.version, index), tags)?;
             }
         }
         Ok(())
@@ -102,46 +102,32 @@ impl Held {
         release_through(places, &mut self.tags, popped, through);
     }
 
-    fn add_one(
-        &mut self,
-        keeper: Keeper,
-        place: (u64, usize),
-        sent: &Tagged,
-        tags: TagSet,
-    ) -> Result<(), AllocError>
-        requires number { keeper.log < keeper.logs }
-        requires placed { length self.old.places ≡ keeper.tags }
+    // Adds the mutation at the place, which comes after the others, with its tags that are kept here.
+    fn add_one(&mut self, place: (u64, usize), tags: TagSet) -> Result<(), AllocError>
+        requires within { (tag : ℕ) → is_among tags tag ≡ true → tag < length self.old.places }
         requires last { AllByRecursion (λ one. ComesBefore one.0 place) self.old.waiting }
         ensures waiting { OnOk result (self.new.waiting ≡ self.old.waiting ++ (place, tags) ∷ []) }
-        ensures placed { OnOk result (length self.new.places ≡ keeper.tags) }
-        ensures places { OnOk result (AreAdded (is_kept keeper.log keeper.logs keeper.tags) place sent.now.tags
-            self.old.places self.new.places) }
+        ensures placed { OnOk result (length self.new.places ≡ length self.old.places) }
+        ensures places { OnOk result ((tag : ℕ)
+            → list_at self.new.places tag ≡ with_one place tags self.old.places tag) }
     {
-        add_place(&mut self.places, keeper, place, sent)?;
+        add_place(&mut self.places, place, &tags)?;
         self.tags.insert(place, tags)?;
         Ok(())
     }
 }
 
-// Adds the place to those of each tag of the mutation that is kept here, once.
-fn add_place(
-    places: &mut Vec<Places>,
-    keeper: Keeper,
-    place: (u64, usize),
-    sent: &Tagged,
-) -> Result<(), AllocError>
-    requires number { keeper.log < keeper.logs }
-    requires placed { length places.old.items ≡ keeper.tags }
-    ensures placed { OnOk result (length places.new.items ≡ keeper.tags) }
-    ensures added { OnOk result (AreAdded (is_kept keeper.log keeper.logs keeper.tags) place sent.now.tags
-        places.old.items places.new.items) }
+// Adds the place to those of each of the tags, in O(t) for t tags.
+fn add_place(places: &mut Vec<Places>, place: (u64, usize), tags: &TagSet) -> Result<(), AllocError>
+    requires { (tag : ℕ) → is_among tags.now tag ≡ true → tag < length places.old.items }
+    ensures placed { OnOk result (length places.new.items ≡ length places.old.items) }
+    ensures added { OnOk result ((tag : ℕ)
+        → list_at places.new.items tag ≡ with_one place tags.now places.old.items tag) }
 {
-    let tags = sent.tags.as_slice();
-    for (index, tag) in tags.iter().enumerate() {
-        if keeper.keeps(*tag) && !stands_before(tags, index, *tag) {
-            let own = &mut places[*tag as usize];
-            own.push(place)?;
-        }
+    let mut left = tags.copy();
+    while let Some(tag) = left.pop_first() {
+        let own = &mut places[tag as usize];
+        own.push(place)?;
     }
     Ok(())
 }
@@ -195,21 +181,6 @@ fn is_unwaited(tags: &BTreeMap<(u64, usize), TagSet>, popped: &[u64], place: (u6
         Some(left) => !waits(popped, place.0, left),
         None => false,
     }
-}
-
-// Those of its tags that are kept here.
-fn kept_tags(keeper: Keeper, sent: &Tagged) -> TagSet
-    requires number { keeper.log < keeper.logs }
-    requires few { keeper.tags ≤ tag_limit }
-    ensures { result ≡ kept_among (is_kept keeper.log keeper.logs keeper.tags) sent.now.tags }
-{
-    let mut tags = TagSet::empty();
-    for tag in sent.tags.as_slice() {
-        if keeper.keeps(*tag) {
-            tags.add(*tag);
-        }
-    }
-    tags
 }
 
 // Whether some of the tags was popped through a version below this one only.

@@ -1,7 +1,11 @@
 // Which tags a log keeps.
-ghost use Rattle.std.specs.Prelude.{◌≡◌, ◌<◌, length, take};
+ghost use Rattle.std.specs.Prelude.{◌≡◌, ◌<◌, ◌≤◌};
+ghost use Rattle.fdb_txn.specs.Limits.{tag_limit};
 ghost use Rattle.fdb_log.specs.Messages.{is_kept};
-ghost use Rattle.fdb_log.specs.TagSets.{is_among};
+ghost use Rattle.fdb_log.specs.Waiting.{kept_among};
+
+use crate::message::Tagged;
+use crate::tag_set::TagSet;
 
 /// The number of a log, and how many logs and tags there are.
 #[derive(Clone, Copy)]
@@ -21,10 +25,17 @@ impl Keeper {
     }
 }
 
-/// Whether the tag is one of the first tags, as many as the index says.
-pub(crate) fn stands_before(tags: &[u32], index: usize, tag: u32) -> bool
-    requires { index < length tags.now }
-    ensures { result ≡ is_among (take index tags.now) tag }
+/// Those of the mutation's tags that are kept here, in O(t) for t tags.
+pub(crate) fn kept_tags(keeper: Keeper, sent: &Tagged) -> TagSet
+    requires number { keeper.log < keeper.logs }
+    requires few { keeper.tags ≤ tag_limit }
+    ensures { result ≡ kept_among (is_kept keeper.log keeper.logs keeper.tags) sent.now.tags }
 {
-    tags[..index].iter().any(|other| *other == tag)
+    let mut tags = TagSet::empty();
+    for tag in sent.tags.as_slice() {
+        if keeper.keeps(*tag) {
+            tags.add(*tag);
+        }
+    }
+    tags
 }

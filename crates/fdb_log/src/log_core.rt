@@ -94,8 +94,8 @@ impl LogCore {
     /// memory ran out in an earlier call, as `Stale` where the entry before the message's lies before the last one
     /// taken, as `NotYet` with that entry's version where it hasn't been taken, and as `NoMemory`. The log stays as it
     /// was where it is refused, but for `NoMemory`, after which it has failed. An entry's version is above that of the
-    /// entry before it. It takes O(t + m log n) for t tags that are kept here, m tags of the message's mutations and n
-    /// mutations held.
+    /// entry before it. It takes O(t + b + m log n) amortised for t tags in all, b mutations of the message, m tags of
+    /// these and n mutations held.
     pub fn push(&mut self, message: &LogMsg) -> Result<LogAck, Refusal>
         requires { message.now.prev < message.now.version }
         ensures answers { Answers result (push_fault self.old message.now)

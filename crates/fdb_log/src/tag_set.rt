@@ -18,7 +18,7 @@ impl Model for TagSet {
 }
 
 impl TagSet {
-    ghost use Rattle.std.specs.Prelude.{◌≡◌, ◌<◌, ◌==◌, [], ◌∷◌, length, MatchOption};
+    ghost use Rattle.std.specs.Prelude.{◌≡◌, ◌<◌, ◌==◌, [], ◌∷◌, length, false, MatchOption, IfSome};
     ghost use Rattle.fdb_txn.specs.Limits.{tag_limit};
     ghost use Rattle.fdb_log.specs.TagSets.{is_among, tags_that};
 
@@ -53,7 +53,8 @@ impl TagSet {
 
     /// Takes the lowest tag.
     pub(crate) fn pop_first(&mut self) -> Option<u32>
-        ensures { MatchOption result (self.old ≡ []) (λ tag. self.old ≡ tag ∷ self.new) }
+        ensures first { MatchOption result (self.old ≡ []) (λ tag. self.old ≡ tag ∷ self.new) }
+        ensures once { IfSome result (λ tag. is_among self.new tag ≡ false) }
     {
         if self.bits == 0 {
             return None;

@@ -1,11 +1,12 @@
 // What a message has for each tag.
-ghost use Rattle.std.specs.Prelude.{◌≡◌, ◌<◌, ℕ, true, false, length, slice_get, slice_set, replicate};
+ghost use Rattle.std.specs.Prelude.{◌≡◌, ◌<◌, ◌≤◌, ℕ, true, false, length, slice_get, slice_set, replicate};
 ghost use Rattle.std.specs.Prelude.{IfOk, OnOk, ◌++◌, [], ◌∷◌};
 ghost use Rattle.std.specs.Option.{unwrap_or};
+ghost use Rattle.fdb_txn.specs.Limits.{tag_limit};
 ghost use Rattle.fdb_log.specs.Messages.{is_kept, sent_to, tag_message};
 ghost use Rattle.fdb_log.specs.Places.{AreAdded};
 
-use crate::keeper::{Keeper, stands_before};
+use crate::keeper::{Keeper, kept_tags};
 use crate::message::{LogMsg, Tagged};
 use crate::queue::Queue;
 use fdb_keys::{Items, SharedList};
@@ -25,6 +26,7 @@ pub(crate) fn push_told(
     message: &LogMsg,
 ) -> Result<(), AllocError>
     requires number { keeper.log < keeper.logs }
+    requires few { keeper.tags ≤ tag_limit }
     requires queued { length queues.old ≡ keeper.tags }
     ensures kept { OnOk result ((tag : ℕ) → is_kept keeper.log keeper.logs keeper.tags tag ≡ true
         → unwrap_or (slice_get queues.new tag) [] ≡ unwrap_or (slice_get queues.old tag) []
@@ -50,7 +52,8 @@ pub(crate) fn push_told(
 
 // By the number of the tag: the mutations for it, if it is kept here.
 fn bodies_of(alloc: Global, keeper: Keeper, message: &LogMsg) -> Result<Vec<Body>, AllocError>
-    requires { keeper.log < keeper.logs }
+    requires number { keeper.log < keeper.logs }
+    requires few { keeper.tags ≤ tag_limit }
     ensures long { IfOk result (λ bodies. length bodies.items ≡ keeper.tags) }
     ensures bodies { IfOk result (λ bodies. (tag : ℕ) → is_kept keeper.log keeper.logs keeper.tags tag ≡ true
         → unwrap_or (slice_get bodies.items tag) [] ≡ sent_to tag message.now.body) }
@@ -62,20 +65,19 @@ fn bodies_of(alloc: Global, keeper: Keeper, message: &LogMsg) -> Result<Vec<Body
     Ok(bodies)
 }
 
-// Adds the mutation to the body of each of its tags that is kept here, once.
+// Adds the mutation to the body of each of its tags that is kept here, once, in O(t) for t tags.
 fn add_sent(bodies: &mut Vec<Body>, keeper: Keeper, sent: &Tagged) -> Result<(), AllocError>
     requires number { keeper.log < keeper.logs }
+    requires few { keeper.tags ≤ tag_limit }
     requires long { length bodies.old.items ≡ keeper.tags }
     ensures long { OnOk result (length bodies.new.items ≡ keeper.tags) }
     ensures added { OnOk result (AreAdded (is_kept keeper.log keeper.logs keeper.tags)
         (sent.now.place, sent.now.mutation) sent.now.tags bodies.old.items bodies.new.items) }
 {
-    let tags = sent.tags.as_slice();
-    for (index, tag) in tags.iter().enumerate() {
-        if keeper.keeps(*tag) && !stands_before(tags, index, *tag) {
-            let body = &mut bodies[*tag as usize];
-            body.push((sent.place, sent.mutation.clone()?))?;
-        }
+    let mut left = kept_tags(keeper, sent);
+    while let Some(tag) = left.pop_first() {
+        let body = &mut bodies[tag as usize];
+        body.push((sent.place, sent.mutation.clone()?))?;
     }
     Ok(())
 }

@@ -1,71 +1,41 @@
-use Rattle.std.proofs.Common.{◌≡◌, ◌∙◌, sym, ap, subst, ℕ, ◌+◌, ◌<◌, true, false, List, [], ◌∷◌, ◌++◌, length, get_or}
-use Rattle.std.proofs.Common.{take, inl, inr, rules}
+use Rattle.std.proofs.Common.{◌∙◌, sym, subst, ℕ, ◌<◌, List, length, rules}
 use Rattle.std.specs.Prelude.{slice_set}
-use Rattle.std.proofs.lemmas.List.{get_or_default, length-set}
-use Rattle.fdb_log.specs.Messages.{is_kept}
-use Rattle.fdb_log.specs.Places.{AreAdded}
-use Rattle.fdb_log.specs.TagSets.{is_among}
-use Rattle.fdb_log.proofs.AddedLemmas.{added-left, added-more}
+use Rattle.fdb_log.proofs.AddedLemmas.{AreLeft, left-all, left-none, left-next, left-there}
 use Rattle.fdb_log.proofs.ToldLemmas.{read-at}
 use Rattle.fdb_log.proofs.held.add_place.Goals as goal
-use Rattle.fdb_log.proofs.held.add_place.Goals.{then-keeps+then-not-stands_before+in_ok-push, else-keeps}
-use Rattle.fdb_log.proofs.held.add_place.Goals.{else-keeps-via-then-keeps+else-not-stands_before}
-use Rattle.fdb_log.proofs.held.add_place.Goals.{else-keeps-via-else-keeps}
+use Rattle.fdb_log.proofs.held.add_place.Goals.{In-Some}
 
-pub loop-index-preserved : goal.loop-index-preserved
-loop-index-preserved c =
-    let kept = is_kept c.args.keeper.log c.args.keeper.logs c.args.keeper.tags in
-    let sent = c.args.sent.now in
-    let one = c.args.place in
-    let index = c.loop-index.index in
-    let it = get_or c.as_slice-tags.result.now index 0 in
-    let now = c.loop-index.places.items in
-    let tags : c.as_slice-tags.result.now ≡ sent.tags = c.as_slice-tags.ensures in
-    let within : index < length sent.tags = search rules in
-    let reads : it ≡ get_or sent.tags index it =
-    ap (λ (list : List ℕ). get_or list index 0) tags ∙ get_or_default sent.tags index 0 it within in
-    let long : length now ≡ c.args.keeper.tags = c.loop-index.invariant.long in
-    elim c.if-keeps.branch [
-      | then-keeps+then-not-stands_before+in_ok-push w ↦
-          let kept_here : kept it ≡ true = sym w.if-keeps.ensures in
-          let first : is_among (take index sent.tags) it ≡ false =
-          sym (w.if-not-stands_before.ensures ∙ ap (λ (list : List ℕ). is_among (take index list) it) tags) in
-          let there : it < length now = search rules in
-          let body = w.index_mut-own.result.now in
-          let is : c.if-keeps.places.items ≡ slice_set now it (body ++ one ∷ []) =
-          ap (λ vec. vec.items) w.places-is
-          ∙ ap (slice_set now it) w.in_ok-push.ensures in
-          record {
-            long = ap length is ∙ length-set now it (body ++ one ∷ []) ∙ long;
-            added =
-                subst (AreAdded kept one (take (index + 1) sent.tags) c.args.places.now.items) (sym is)
-                (added-more kept one sent.tags index it c.args.places.now.items now within reads
-                c.loop-index.invariant.added body
-                first there kept_here (w.index_mut-own.ensures.value ∙ read-at now it body there));
-          }
-      | else-keeps w ↦
-          elim w.else-keeps.branch [
-            | else-keeps-via-then-keeps+else-not-stands_before v ↦
-                let stood : is_among (take index sent.tags) it ≡ true =
-                sym (v.if-not-stands_before.ensures ∙ ap (λ (list : List ℕ). is_among (take index list) it) tags) in
-                record {
-                  long = ap (λ vec. length vec.items) w.places-is ∙ long;
-                  added =
-                      subst (λ vec. AreAdded kept one (take (index + 1) sent.tags) c.args.places.now.items vec.items)
-                      (sym w.places-is)
-                      (added-left kept one sent.tags index it c.args.places.now.items now within reads
-                      c.loop-index.invariant.added
-                      (inr stood));
-                }
-            | else-keeps-via-else-keeps v ↦
-                record {
-                  long = ap (λ vec. length vec.items) w.places-is ∙ long;
-                  added =
-                      subst (λ vec. AreAdded kept one (take (index + 1) sent.tags) c.args.places.now.items vec.items)
-                      (sym w.places-is)
-                      (added-left kept one sent.tags index it c.args.places.now.items now within reads
-                      c.loop-index.invariant.added
-                      (inl (sym v.if-keeps.ensures)));
-                }
-          ]
-    ]
+pub loop-tag-init : goal.loop-tag-init
+loop-tag-init c =
+    subst (λ (left : List ℕ). AreLeft c.args.place c.args.tags.now left c.args.places.now.items c.args.places.now.items)
+    (sym c.copy-left.ensures) (left-all c.args.place c.args.tags.now c.args.places.now.items c.requires)
+
+-- the next tag has a list
+there : (c : In-Some) → c.in-Some.tag < length c.loop-tag.places.items
+there c =
+    left-there c.args.place c.args.tags.now c.args.places.now.items c.loop-tag.left c.in-Some.tag c.pop_first.new.self
+    c.loop-tag.places.items c.in-Some.ensures.first c.loop-tag.invariant
+
+pub index_mut-own-requires : goal.index_mut-own-requires
+index_mut-own-requires c =
+    let it = c.in-Some.tag in
+    let within : it < length c.loop-tag.places.items = there (goal.at.index_mut-own-requires c).In-Some in search rules
+
+pub loop-tag-preserved : goal.loop-tag-preserved
+loop-tag-preserved c =
+    let here = (goal.at.loop-tag-preserved c).In-Some in
+    let it = c.in-Some.tag in
+    let now = c.loop-tag.places.items in
+    let body = c.index_mut-own.result.now in
+    subst (λ (list : List (ℕ × ℕ)). AreLeft c.args.place c.args.tags.now c.pop_first.new.self c.args.places.now.items
+    (slice_set now it list)) (sym c.in_ok-push.ensures)
+    (left-next c.args.place c.args.tags.now c.args.places.now.items c.loop-tag.left it c.pop_first.new.self now body
+    c.in-Some.ensures.first c.in-Some.ensures.once (c.index_mut-own.ensures.value ∙ read-at now it body (there here))
+    c.loop-tag.invariant)
+
+pub returns : goal.returns
+returns c = record {
+  placed = c.loop-tag.invariant.long;
+  added = left-none c.args.place c.args.tags.now c.args.places.now.items c.loop-tag.left c.loop-tag.places.items
+      c.in_default.ensures.first c.loop-tag.invariant;
+}

@@ -1,12 +1,9 @@
-use Rattle.std.proofs.Common.{◌≡◌, take, length}
-use Rattle.fdb_log.specs.Messages.{is_kept}
-use Rattle.fdb_log.specs.Places.{AreAdded}
+use Rattle.std.proofs.Common.{length}
+use Rattle.fdb_log.proofs.AddedLemmas.{AreLeft}
 use Rattle.fdb_log.proofs.held.add_place.Given as goal
 
-abbrev pub invariant-loop-index : goal.invariant-loop-index
-invariant-loop-index l =
-    record {
-      long : length l.places.items ≡ l.keeper.tags;
-      added : AreAdded (is_kept l.keeper.log l.keeper.logs l.keeper.tags) l.place (take l.index l.sent.tags)
-          l.initial.places.items l.places.items;
-    }
+abbrev pub invariant-loop-tag : goal.invariant-loop-tag
+invariant-loop-tag l = AreLeft l.place l.tags l.left l.initial.places.items l.places.items
+
+abbrev pub decreases-loop-tag : goal.decreases-loop-tag
+decreases-loop-tag l = length l.left

@@ -1,74 +1,70 @@
-use Rattle.std.proofs.Common.{◌≡◌, ◌∙◌, sym, ap, subst, ℕ, ◌+◌, ◌<◌, true, false, List, [], ◌∷◌, ◌++◌, length, get_or}
-use Rattle.std.proofs.Common.{take, inl, inr, rules}
+use Rattle.std.proofs.Common.{◌≡◌, ◌∙◌, sym, ap, refl, subst, ℕ, ◌<◌, List, [], ◌∷◌, ◌++◌, length, rules}
 use Rattle.std.specs.Prelude.{slice_set}
-use Rattle.std.proofs.lemmas.List.{get_or_default, length-set}
 use Rattle.fdb_mutations.specs.declared.mutation.Mutation.{Mutation}
 use Rattle.fdb_log.specs.Messages.{is_kept}
-use Rattle.fdb_log.specs.Places.{AreAdded}
-use Rattle.fdb_log.specs.TagSets.{is_among}
-use Rattle.fdb_log.proofs.AddedLemmas.{added-left, added-more}
+use Rattle.fdb_log.specs.Waiting.{kept_among}
+use Rattle.fdb_log.proofs.AddedLemmas.{AreLeft, added-kept, left-all, left-none, left-next, left-there}
+use Rattle.fdb_log.proofs.TagSetLemmas.{few-kept, kept-low}
 use Rattle.fdb_log.proofs.ToldLemmas.{read-at}
 use Rattle.fdb_log.proofs.telling.add_sent.Goals as goal
-use Rattle.fdb_log.proofs.telling.add_sent.Goals.{then-keeps+then-not-stands_before+in_ok-clone+in_ok-push, else-keeps}
-use Rattle.fdb_log.proofs.telling.add_sent.Goals.{else-keeps-via-then-keeps+else-not-stands_before}
-use Rattle.fdb_log.proofs.telling.add_sent.Goals.{else-keeps-via-else-keeps}
+use Rattle.fdb_log.proofs.telling.add_sent.Goals.{In-Some}
 
-pub loop-index-preserved : goal.loop-index-preserved
-loop-index-preserved c =
-    let kept = is_kept c.args.keeper.log c.args.keeper.logs c.args.keeper.tags in
+pub loop-tag-init : goal.loop-tag-init
+loop-tag-init c =
+    let keeper = c.args.keeper in
     let sent = c.args.sent.now in
+    let set = kept_among (is_kept keeper.log keeper.logs keeper.tags) sent.tags in
+    subst (λ (left : List ℕ). AreLeft (sent.place, sent.mutation) set left c.args.bodies.now.items
+    c.args.bodies.now.items) (sym c.kept_tags-left.ensures)
+    (left-all (sent.place, sent.mutation) set c.args.bodies.now.items
+    (λ tag among. subst (λ (count : ℕ). tag < count) (sym c.requires.long)
+    (kept-low keeper.log keeper.logs keeper.tags sent.tags tag among)))
+
+-- the next tag has a body
+there : (c : In-Some) → c.in-Some.tag < length c.loop-tag.bodies.items
+there c =
+    left-there (c.args.sent.now.place, c.args.sent.now.mutation)
+    (kept_among (is_kept c.args.keeper.log c.args.keeper.logs c.args.keeper.tags) c.args.sent.now.tags)
+    c.args.bodies.now.items c.loop-tag.left c.in-Some.tag c.pop_first.new.self c.loop-tag.bodies.items
+    c.in-Some.ensures.first c.loop-tag.invariant
+
+pub index_mut-body-requires : goal.index_mut-body-requires
+index_mut-body-requires c =
+    let it = c.in-Some.tag in
+    let within : it < length c.loop-tag.bodies.items = there (goal.at.index_mut-body-requires c).In-Some in
+    search rules
+
+pub loop-tag-preserved : goal.loop-tag-preserved
+loop-tag-preserved c =
+    let here = (goal.at.loop-tag-preserved c).In-Some in
+    let keeper = c.args.keeper in
+    let sent = c.args.sent.now in
+    let set = kept_among (is_kept keeper.log keeper.logs keeper.tags) sent.tags in
     let one : ℕ × Mutation = (sent.place, sent.mutation) in
-    let index = c.loop-index.index in
-    let it = get_or c.as_slice-tags.result.now index 0 in
-    let now = c.loop-index.bodies.items in
-    let tags : c.as_slice-tags.result.now ≡ sent.tags = c.as_slice-tags.ensures in
-    let within : index < length sent.tags = search rules in
-    let reads : it ≡ get_or sent.tags index it =
-    ap (λ (list : List ℕ). get_or list index 0) tags ∙ get_or_default sent.tags index 0 it within in
-    let long : length now ≡ c.args.keeper.tags = c.loop-index.invariant.long in
-    elim c.if-keeps.branch [
-      | then-keeps+then-not-stands_before+in_ok-clone+in_ok-push w ↦
-          let kept_here : kept it ≡ true = sym w.if-keeps.ensures in
-          let first : is_among (take index sent.tags) it ≡ false =
-          sym (w.if-not-stands_before.ensures ∙ ap (λ (list : List ℕ). is_among (take index list) it) tags) in
-          let there : it < length now = search rules in
-          let same : w.in_ok-clone.field-0 ≡ sent.mutation = search rules in
-          let body = w.index_mut-body.result.now in
-          let is : c.if-keeps.bodies.items ≡ slice_set now it (body ++ one ∷ []) =
-          ap (λ vec. vec.items) w.bodies-is
-          ∙ ap (slice_set now it)
-          (w.in_ok-push.ensures.ok ∙ ap (λ (mutation : Mutation). body ++ (sent.place, mutation) ∷ []) same) in
-          record {
-            long = ap length is ∙ length-set now it (body ++ one ∷ []) ∙ long;
-            added =
-                subst (AreAdded kept one (take (index + 1) sent.tags) c.args.bodies.now.items) (sym is)
-                (added-more kept one sent.tags index it c.args.bodies.now.items now within reads
-                c.loop-index.invariant.added body
-                first there kept_here (w.index_mut-body.ensures.value ∙ read-at now it body there));
-          }
-      | else-keeps w ↦
-          elim w.else-keeps.branch [
-            | else-keeps-via-then-keeps+else-not-stands_before v ↦
-                let stood : is_among (take index sent.tags) it ≡ true =
-                sym (v.if-not-stands_before.ensures ∙ ap (λ (list : List ℕ). is_among (take index list) it) tags) in
-                record {
-                  long = ap (λ vec. length vec.items) w.bodies-is ∙ long;
-                  added =
-                      subst (λ vec. AreAdded kept one (take (index + 1) sent.tags) c.args.bodies.now.items vec.items)
-                      (sym w.bodies-is)
-                      (added-left kept one sent.tags index it c.args.bodies.now.items now within reads
-                      c.loop-index.invariant.added
-                      (inr stood));
-                }
-            | else-keeps-via-else-keeps v ↦
-                record {
-                  long = ap (λ vec. length vec.items) w.bodies-is ∙ long;
-                  added =
-                      subst (λ vec. AreAdded kept one (take (index + 1) sent.tags) c.args.bodies.now.items vec.items)
-                      (sym w.bodies-is)
-                      (added-left kept one sent.tags index it c.args.bodies.now.items now within reads
-                      c.loop-index.invariant.added
-                      (inl (sym v.if-keeps.ensures)));
-                }
-          ]
-    ]
+    let it = c.in-Some.tag in
+    let now = c.loop-tag.bodies.items in
+    let body = c.index_mut-body.result.now in
+    let same : c.in_ok-clone.field-0 ≡ sent.mutation = search rules in
+    let pushed : c.push.new.self ≡ body ++ one ∷ [] =
+    c.in_ok-push.ensures.ok ∙ ap (λ (mutation : Mutation). body ++ (sent.place, mutation) ∷ []) same in
+    subst (λ (list : List (ℕ × Mutation)). AreLeft one set c.pop_first.new.self c.args.bodies.now.items
+    (slice_set now it list)) (sym pushed)
+    (left-next one set c.args.bodies.now.items c.loop-tag.left it c.pop_first.new.self now body
+    c.in-Some.ensures.first c.in-Some.ensures.once (c.index_mut-body.ensures.value ∙ read-at now it body (there here))
+    c.loop-tag.invariant)
+
+pub returns : goal.returns
+returns c =
+    let keeper = c.args.keeper in
+    let sent = c.args.sent.now in
+    let kept = is_kept keeper.log keeper.logs keeper.tags in
+    let one : ℕ × Mutation = (sent.place, sent.mutation) in
+    let old = c.args.bodies.now.items in
+    let new = c.loop-tag.bodies.items in
+    record {
+      long = c.loop-tag.invariant.long ∙ c.requires.long;
+      added = added-kept kept (few-kept keeper.log keeper.logs keeper.tags c.requires.few) one sent.tags
+          (kept_among kept sent.tags) old new refl
+          (left-none one (kept_among kept sent.tags) old c.loop-tag.left new c.in_default.ensures.first
+          c.loop-tag.invariant);
+    }

@@ -1,13 +1,14 @@
-use Rattle.std.proofs.Common.{◌≡◌, take, length}
+use Rattle.std.proofs.Common.{length}
 use Rattle.fdb_log.specs.Messages.{is_kept}
-use Rattle.fdb_log.specs.Places.{AreAdded}
+use Rattle.fdb_log.specs.Waiting.{kept_among}
+use Rattle.fdb_log.proofs.AddedLemmas.{AreLeft}
 use Rattle.fdb_log.proofs.telling.add_sent.Given as goal
 
-abbrev pub invariant-loop-index : goal.invariant-loop-index
-invariant-loop-index l =
-    record {
-      long : length l.bodies.items ≡ l.keeper.tags;
-      added : AreAdded (is_kept l.keeper.log l.keeper.logs l.keeper.tags) (l.sent.place, l.sent.mutation)
-          (take l.index l.sent.tags)
-          l.initial.bodies.items l.bodies.items;
-    }
+abbrev pub invariant-loop-tag : goal.invariant-loop-tag
+invariant-loop-tag l =
+    AreLeft (l.sent.place, l.sent.mutation)
+    (kept_among (is_kept l.fn.keeper.log l.fn.keeper.logs l.fn.keeper.tags) l.sent.tags)
+    l.left l.initial.bodies.items l.bodies.items
+
+abbrev pub decreases-loop-tag : goal.decreases-loop-tag
+decreases-loop-tag l = length l.left

@@ -4,9 +4,11 @@ use Rattle.std.specs.List.{AllByRecursion}
 use Rattle.std.proofs.lemmas.List.{append-nil}
 use Rattle.fdb_log.specs.Messages.{is_kept}
 use Rattle.fdb_log.specs.Places.{Holding, AreListed}
+use Rattle.fdb_log.specs.TagSets.{is_among}
 use Rattle.fdb_log.specs.Waiting.{Waiting, ComesBefore, waiting_from}
+use Rattle.fdb_log.proofs.AddedLemmas.{added-kept}
 use Rattle.fdb_log.proofs.ListedLemmas.{listed-later, listed-more}
-use Rattle.fdb_log.proofs.TagSetLemmas.{few-kept}
+use Rattle.fdb_log.proofs.TagSetLemmas.{few-kept, kept-low}
 use Rattle.fdb_log.proofs.WaitingLemmas.{next-none, next-one, come-before}
 use Rattle.fdb_log.proofs.held.Held.add.Goals as goal
 use Rattle.fdb_log.proofs.held.Held.add.Goals.{then-not-is_empty+in_ok-add_one, else-not-is_empty}
@@ -16,8 +18,10 @@ add_one-requires c =
     let message = c.args.message.now in
     let kept = is_kept c.args.keeper.log c.args.keeper.logs c.args.keeper.tags in
     record {
-      number = c.requires.number;
-      placed = c.loop-index.invariant.placed;
+      within = λ tag among.
+          subst (λ (count : ℕ). tag < count) (sym c.loop-index.invariant.placed)
+          (kept-low c.args.keeper.log c.args.keeper.logs c.args.keeper.tags c.sent-item.result.tags tag
+          (sym (ap (λ (some : List ℕ). is_among some tag) c.kept_tags-tags.ensures) ∙ among));
       last =
           subst (λ (list : List Waiting). AllByRecursion
           (λ (one : Waiting). ComesBefore one.0 (message.version, c.loop-index.index)) list)
@@ -64,13 +68,18 @@ loop-index-preserved c =
           → AreListed kept popped last c.args.self.now
           → AreListed kept popped message.version w.add_one.new.self =
           λ popped last more are. listed-more kept popped (message.version, index) sent.tags c.loop-index.self
-          w.add_one.new.self (c.loop-index.invariant.listed popped last more are) w.in_ok-add_one.ensures.places
+          w.add_one.new.self (c.loop-index.invariant.listed popped last more are)
+          (added-kept kept few (message.version, index) sent.tags tags c.loop-index.self.places
+          w.add_one.new.self.places c.kept_tags-tags.ensures w.in_ok-add_one.ensures.places)
           (added
           ∙ ap (λ (list : List ℕ). c.loop-index.self.waiting ++ ((message.version, index), list) ∷ [])
           c.kept_tags-tags.ensures) in
           record {
             waiting = ap (λ (held : Holding). held.waiting) w.self-is ∙ waiting;
-            placed = ap (λ (held : Holding). length held.places) w.self-is ∙ w.in_ok-add_one.ensures.placed;
+            placed =
+                ap (λ (held : Holding). length held.places) w.self-is
+                ∙ w.in_ok-add_one.ensures.placed
+                ∙ c.loop-index.invariant.placed;
             listed = λ popped last more are.
                 subst (AreListed kept popped message.version) (sym w.self-is) (listed popped last more are);
           }

@@ -4,8 +4,8 @@ use Rattle.fdb_log.specs.Messages.{is_kept}
 use Rattle.fdb_log.specs.TagSets.{is_among, tags_that}
 use Rattle.fdb_log.specs.Waiting.{kept_among}
 use Rattle.fdb_log.proofs.TagSetLemmas.{few-kept, kept-none, kept-more, kept-left}
-use Rattle.fdb_log.proofs.held.kept_tags.Goals as goal
-use Rattle.fdb_log.proofs.held.kept_tags.Goals.{then-keeps, else-keeps}
+use Rattle.fdb_log.proofs.keeper.kept_tags.Goals as goal
+use Rattle.fdb_log.proofs.keeper.kept_tags.Goals.{then-keeps, else-keeps}
 
 pub loop-tag-init : goal.loop-tag-init
 loop-tag-init c =
