@@ -7,6 +7,7 @@ mod NewerPieceLemmas
 mod NewerWalkLemmas
 mod PartsLemmas
 mod PiecesLemmas
+mod ReachedLemmas
 mod SweepLemmas
 mod ThroughoutLemmas
 mod VersionsLemmas

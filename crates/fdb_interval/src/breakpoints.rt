@@ -69,6 +69,51 @@ fn version_throughout(breaks: &BTreeMap<PointKey, u64>, range: &KeyedRange) -> O
     }
 }
 
+// What a range meets: the version throughout it, if no breakpoint is inside it, and that of the breakpoint at its end,
+// if there is one.
+#[derive(Clone, Copy)]
+struct Met {
+    throughout: Option<Throughout>,
+    at_end: Option<u64>,
+}
+
+// What the range, which has a point, meets. Mostly one look-up tells both.
+fn meet(breaks: &BTreeMap<PointKey, u64>, range: &KeyedRange) -> Met
+    requires { IsTrue (point_lt range.now.begin range.now.end) }
+    ensures version { IfSome result.throughout (λ found. found.version
+        ≡ value_from 0 breaks.now.entries range.now.begin) }
+    ensures before { IfSome result.throughout (λ found. found.begins ≡ false
+        → found.version ≡ last_value 0 (breaks_before range.now.begin breaks.now.entries)) }
+    ensures inside { IfSome result.throughout (λ _. breaks_inside range.now breaks.now.entries ≡ []) }
+    ensures at_end { result.at_end ≡ lookup (is_at (slice_cmp nat_cmp range.now.end)) breaks.now.entries }
+    ensures rising { AreRising breaks.now.entries }
+{
+    match breaks.range(..=range.end()).next_back() {
+        Some((point, version)) if !is_before(point, range.end()) => Met {
+            throughout: version_throughout(breaks, range),
+            at_end: Some(*version),
+        },
+        Some((point, _version)) if is_before(range.begin(), point) => Met {
+            throughout: None,
+            at_end: None,
+        },
+        Some((point, version)) => Met {
+            throughout: Some(Throughout {
+                version: *version,
+                begins: !is_before(point, range.begin()),
+            }),
+            at_end: None,
+        },
+        None => Met {
+            throughout: Some(Throughout {
+                version: 0,
+                begins: false,
+            }),
+            at_end: None,
+        },
+    }
+}
+
 #[tactic(auto, unfolding(fdb_keys::specs::Points::point_lt))]
 fn is_before(a: &PointKey, b: &PointKey) -> bool
     ensures { result ≡ point_lt a.now b.now }
@@ -158,9 +203,8 @@ fn assign_keyed(
     ensures last { OnOk result (last_value 0 breaks.new.entries ≡ last_value 0 breaks.old.entries) }
     ensures err { OnErr result (breaks.new.entries ≡ breaks.old.entries) }
 {
-    let throughout = version_throughout(breaks, range);
+    let Met { throughout, at_end } = meet(breaks, range);
     let before = version_before_range(breaks, range, throughout);
-    let at_end = breaks.get(range.end()).copied();
     let behind = version_behind(breaks, range, throughout, at_end);
     let swallowed = list_swallowed(alloc, breaks, range, throughout)?;
     put_both(breaks, range, version, at_end, behind)?;

@@ -88,6 +88,17 @@ fn head_of(text: &[u8]) -> u64
     ensures value { result ≡ head_by 8 text.now }
     ensures bytes { AreBytes text.now }
 {
+    match text.first_chunk::<HEAD>() {
+        Some(first) => u64::from_be_bytes(*first),
+        None => head_of_short(text),
+    }
+}
+
+// The same byte by byte, whatever the length.
+fn head_of_short(text: &[u8]) -> u64
+    ensures value { result ≡ head_by 8 text.now }
+    ensures bytes { AreBytes text.now }
+{
     let mut head = 0u64;
     for place in 0..HEAD {
         head = head * 256 + u64::from(byte_or_zero(text, place));

@@ -14,7 +14,7 @@ use Rattle.fdb_interval.proofs.breakpoints.assign_keyed.Goals.{After-drop-swallo
 made : (c : After-drop-swallowed-2)
     → c.remove_if-2.new.breaks.entries
     ≡ assigned c.args.breaks.now.entries c.args.range.now c.args.version
-    c.version_throughout-throughout.ensures.rising c.requires
+    c.meet-throughout.ensures.rising c.requires
 made c =
     let old = c.args.breaks.now.entries in
     let range = c.args.range.now in
@@ -35,23 +35,23 @@ made c =
     ≡ taken_if (behind == version) range.end c.remove_if.new.breaks.entries = search rules in
     assigned-by-steps old c.put_both.new.breaks.entries c.remove_all.new.breaks.entries c.remove_if.new.breaks.entries
     c.remove_if-2.new.breaks.entries range version before behind c.as_slice.result.now
-    c.version_throughout-throughout.ensures.rising c.requires is_before is_behind are_keys is_laid is_left is_first
+    c.meet-throughout.ensures.rising c.requires is_before is_behind are_keys is_laid is_left is_first
     is_last
 
 pub returns-clause-versions : goal.returns-clause-versions
 returns-clause-versions c = λ x.
     ap (λ (l : Breaks ℕ). value_from 0 l x) (made c)
     ∙ version-assigned c.args.breaks.now.entries c.args.range.now c.args.version
-    c.version_throughout-throughout.ensures.rising c.requires x
+    c.meet-throughout.ensures.rising c.requires x
 
 pub returns-clause-joined : goal.returns-clause-joined
 returns-clause-joined c = λ floor joined.
     subst (AreJoined floor 0) (sym (made c))
     (joined-assigned c.args.breaks.now.entries c.args.range.now c.args.version
-    c.version_throughout-throughout.ensures.rising c.requires floor joined)
+    c.meet-throughout.ensures.rising c.requires floor joined)
 
 pub returns-clause-last : goal.returns-clause-last
 returns-clause-last c =
     ap (last_value 0) (made c)
     ∙ last-assigned c.args.breaks.now.entries c.args.range.now c.args.version
-    c.version_throughout-throughout.ensures.rising c.requires
+    c.meet-throughout.ensures.rising c.requires
