@@ -332,7 +332,7 @@ module _ (old : Breaks ℕ) (range : Range) (version : ℕ) (rising : AreRising 
       ∙ ap (λ n. last_value n rest) (sym (value-by-last 0 old range.end)))
 
 -- what the steps of the code come to
-pub assigned-by-steps : (old laid left first last : Breaks ℕ) (range : Range) (version before there : ℕ)
+assigned-by-steps : (old laid left first last : Breaks ℕ) (range : Range) (version before there : ℕ)
     (keys : List Point)
     (rising : AreRising old) (some : point_lt range.begin range.end ≡ true)
     → before ≡ last_value 0 (breaks_before range.begin old)
@@ -356,3 +356,39 @@ assigned-by-steps old laid left first last range version before there keys risin
     (cleared old range version rising some) =
     is_first ∙ (λ i. taken_if (is_before i == version) range.begin (left_is i)) in
     is_last ∙ (λ i. taken_if (is_behind i == version) range.end (first_is i))
+
+without-append : (xs ys : List Point) (es : Breaks ℕ)
+    → without_points (xs ++ ys) es ≡ without_points ys (without_points xs es)
+without-append [] ys es = refl
+without-append (x ∷ xs) ys es = without-append xs ys (taken x es)
+
+without-if : (joined : Bool) (x : Point) (es : Breaks ℕ)
+    → without_points (if joined then x ∷ [] else []) es ≡ taken_if joined x es
+without-if true x es = refl
+without-if false x es = refl
+
+-- the same where all that goes is taken at once
+pub assigned-at-once : (old laid last : Breaks ℕ) (range : Range) (version before there : ℕ) (gone : List Point)
+    (rising : AreRising old) (some : point_lt range.begin range.end ≡ true)
+    → before ≡ last_value 0 (breaks_before range.begin old)
+    → there ≡ value_from 0 old range.end
+    → gone ≡ (keys_of (breaks_inside range old) ++ (if before == version then range.begin ∷ [] else []))
+    ++ (if there == version then range.end ∷ [] else [])
+    → laid ≡ put range.begin version
+    (if is_some (lookup (is_at (slice_cmp nat_cmp range.end)) old) then old else put range.end there old)
+    → last ≡ without_points gone laid
+    → last ≡ assigned old range version rising some
+assigned-at-once old laid last range version before there gone rising some is_before is_behind are_gone is_laid is_last =
+    let keys = keys_of (breaks_inside range old) in
+    let at_begin : List Point = if before == version then range.begin ∷ [] else [] in
+    let at_end : List Point = if there == version then range.end ∷ [] else [] in
+    let left = without_points keys laid in
+    let first = taken_if (before == version) range.begin left in
+    assigned-by-steps old laid left first last range version before there keys rising some is_before is_behind refl
+    is_laid refl refl
+    (is_last
+    ∙ ap (λ (l : List Point). without_points l laid) are_gone
+    ∙ without-append (keys ++ at_begin) at_end laid
+    ∙ ap (without_points at_end)
+    (without-append keys at_begin laid ∙ without-if (before == version) range.begin left)
+    ∙ without-if (there == version) range.end first)

@@ -1,10 +1,10 @@
 // Breakpoints, each with the version that goes from it up to the next one.
-ghost use Rattle.std.specs.Prelude.{◌≡◌, ◌||◌, ℕ, length, nat_lt, false, [], None, IfSome, IfOk, OnOk, OnErr, IsTrue};
-ghost use Rattle.std.specs.Prelude.{is_some, if◌then◌else◌};
+ghost use Rattle.std.specs.Prelude.{◌≡◌, ◌++◌, ◌∷◌, ◌||◌, ℕ, length, nat_lt, false, [], None, IfSome, IfOk, OnOk};
+ghost use Rattle.std.specs.Prelude.{OnErr, IsTrue, is_some, if◌then◌else◌};
 ghost use Rattle.std.specs.BTreeMap.{insert_entry, is_at, values};
 ghost use Rattle.std.specs.Cmp.Lexicographic.{slice_cmp};
 ghost use Rattle.std.specs.List.{filter, list_any};
-ghost use Rattle.std.specs.Map.{keys_of, lookup, remove_entry};
+ghost use Rattle.std.specs.Map.{keys_of, lookup};
 ghost use Rattle.std.specs.Ordering.{nat_cmp};
 ghost use Rattle.fdb_keys.specs.Points.{Point, point_lt};
 ghost use Rattle.fdb_keys.specs.Ranges.{in_range};
@@ -185,32 +185,32 @@ pub(crate) fn assign(
     ensures err { OnErr result (breaks.new.entries ≡ breaks.old.entries) }
 {
     let keyed = KeyedRange::new(range)?;
-    assign_keyed(alloc, breaks, &keyed, version)
+    assign_keyed(alloc, breaks, keyed, version)
 }
 
 // The same, by the keys of the bounds.
 fn assign_keyed(
     alloc: Global,
     breaks: &mut BTreeMap<PointKey, u64>,
-    range: &KeyedRange,
+    range: KeyedRange,
     version: u64,
 ) -> Result<(), AllocError>
-    requires { IsTrue (point_lt range.now.begin range.now.end) }
+    requires { IsTrue (point_lt range.begin range.end) }
     ensures versions { OnOk result ((x : Point) → value_from 0 breaks.new.entries x
-        ≡ (if in_range range.now x then version else value_from 0 breaks.old.entries x)) }
+        ≡ (if in_range range x then version else value_from 0 breaks.old.entries x)) }
     ensures joined { OnOk result ((floor : ℕ)
         → AreJoined floor 0 breaks.old.entries → AreJoined floor 0 breaks.new.entries) }
     ensures last { OnOk result (last_value 0 breaks.new.entries ≡ last_value 0 breaks.old.entries) }
     ensures err { OnErr result (breaks.new.entries ≡ breaks.old.entries) }
 {
-    let Met { throughout, at_end } = meet(breaks, range);
-    let before = version_before_range(breaks, range, throughout);
-    let behind = version_behind(breaks, range, throughout, at_end);
-    let swallowed = list_swallowed(alloc, breaks, range, throughout)?;
+    let Met { throughout, at_end } = meet(breaks, &range);
+    let before = version_before_range(breaks, &range, throughout);
+    let behind = version_behind(breaks, &range, throughout, at_end);
+    let mut gone = list_swallowed(alloc, breaks, &range, throughout)?;
+    push_if(&mut gone, range.begin(), before == version)?;
+    push_if(&mut gone, range.end(), behind == version)?;
     put_both(breaks, range, version, at_end, behind)?;
-    remove_all(breaks, swallowed.as_slice());
-    remove_if(breaks, range.begin(), before == version);
-    remove_if(breaks, range.end(), behind == version);
+    remove_all(breaks, gone.as_slice());
     Ok(())
 }
 
@@ -288,27 +288,37 @@ fn list_inside(
     Ok(inside)
 }
 
+// Adds the point to the list, if it is wanted there.
+fn push_if(points: &mut Vec<PointKey>, point: &PointKey, is_wanted: bool) -> Result<(), AllocError>
+    ensures { OnOk result (points.new.items ≡ points.old.items ++ (if is_wanted then point.now ∷ [] else [])) }
+{
+    if is_wanted {
+        points.push(point.clone()?)?;
+    }
+    Ok(())
+}
+
 // Puts the version at the range's begin, and at its end, if no breakpoint is there, the version behind it. Where
 // memory runs out, nothing changes.
 fn put_both(
     breaks: &mut BTreeMap<PointKey, u64>,
-    range: &KeyedRange,
+    range: KeyedRange,
     version: u64,
     at_end: Option<u64>,
     behind: u64,
 ) -> Result<(), AllocError>
-    requires { at_end ≡ lookup (is_at (slice_cmp nat_cmp range.now.end)) breaks.old.entries }
+    requires { at_end ≡ lookup (is_at (slice_cmp nat_cmp range.end)) breaks.old.entries }
     ensures ok { OnOk result (breaks.new.entries ≡ insert_entry (slice_cmp nat_cmp)
-        (if is_some (lookup (is_at (slice_cmp nat_cmp range.now.end)) breaks.old.entries) then breaks.old.entries
-        else insert_entry (slice_cmp nat_cmp) breaks.old.entries range.now.end behind)
-        range.now.begin version) }
+        (if is_some (lookup (is_at (slice_cmp nat_cmp range.end)) breaks.old.entries) then breaks.old.entries
+        else insert_entry (slice_cmp nat_cmp) breaks.old.entries range.end behind)
+        range.begin version) }
     ensures err { OnErr result (breaks.new.entries ≡ breaks.old.entries) }
 {
-    let begin = range.begin().clone()?;
+    let (begin, end) = range.into_bounds();
     if at_end.is_some() {
         put(breaks, begin, version)
     } else {
-        put_beside_new(breaks, begin, version, range.end(), behind)
+        put_beside_new(breaks, begin, version, end, behind)
     }
 }
 
@@ -330,17 +340,17 @@ fn put_beside_new(
     breaks: &mut BTreeMap<PointKey, u64>,
     begin: PointKey,
     version: u64,
-    end: &PointKey,
+    end: PointKey,
     behind: u64,
 ) -> Result<(), AllocError>
-    requires { lookup (is_at (slice_cmp nat_cmp end.now)) breaks.old.entries ≡ None }
+    requires { lookup (is_at (slice_cmp nat_cmp end)) breaks.old.entries ≡ None }
     ensures ok { OnOk result (breaks.new.entries ≡ insert_entry (slice_cmp nat_cmp)
-        (insert_entry (slice_cmp nat_cmp) breaks.old.entries end.now behind) begin version) }
+        (insert_entry (slice_cmp nat_cmp) breaks.old.entries end behind) begin version) }
     ensures err { OnErr result (breaks.new.entries ≡ breaks.old.entries) }
 {
     put(breaks, end.clone()?, behind)?;
     if let Err(why) = put(breaks, begin, version) {
-        breaks.remove(end);
+        breaks.remove(&end);
         return Err(why);
     }
     Ok(())
@@ -352,15 +362,5 @@ pub(crate) fn remove_all(breaks: &mut BTreeMap<PointKey, u64>, keys: &[PointKey]
 {
     for key in keys {
         breaks.remove(key);
-    }
-}
-
-// Takes out the breakpoint at the point, if it is joined with the one before it.
-fn remove_if(breaks: &mut BTreeMap<PointKey, u64>, point: &PointKey, is_joined: bool)
-    ensures { breaks.new.entries ≡ (if is_joined
-        then remove_entry (is_at (slice_cmp nat_cmp point.now)) breaks.old.entries else breaks.old.entries) }
-{
-    if is_joined {
-        breaks.remove(point);
     }
 }

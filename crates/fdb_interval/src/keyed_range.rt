@@ -53,4 +53,12 @@ impl KeyedRange {
     {
         &self.end
     }
+
+    // Both of them alone.
+    pub(crate) fn into_bounds(self) -> (PointKey, PointKey)
+        ensures { (result.0 ≡ self.begin) × (result.1 ≡ self.end) }
+    {
+        let KeyedRange { begin, end } = self;
+        (begin, end)
+    }
 }
