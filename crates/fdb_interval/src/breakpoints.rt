@@ -121,6 +121,26 @@ fn is_before(a: &PointKey, b: &PointKey) -> bool
     a.cmp(b).is_lt()
 }
 
+// The version throughout the points from a text up to an end, of which there are some, if no breakpoint is inside them.
+// The text needs no owner for that.
+pub(crate) fn version_between(
+    breaks: &BTreeMap<PointKey, u64>,
+    begin: &[u8],
+    end: &PointKey,
+) -> Option<u64>
+    requires { IsTrue (point_lt begin.now end.now) }
+    ensures version { IfSome result (λ version. version ≡ value_from 0 breaks.now.entries begin.now) }
+    ensures inside { IfSome result (λ _. breaks_inside (record { begin = begin.now; end = end.now }) breaks.now.entries
+        ≡ []) }
+    ensures rising { AreRising breaks.now.entries }
+{
+    match breaks.range(..end).next_back() {
+        Some((point, _version)) if point.is_after(begin) => None,
+        Some((_point, version)) => Some(*version),
+        None => Some(0),
+    }
+}
+
 // Whether some point of the range, which has one, has a version above this one.
 pub(crate) fn is_newer_by_keys(
     breaks: &BTreeMap<PointKey, u64>,
@@ -128,16 +148,10 @@ pub(crate) fn is_newer_by_keys(
     version: u64,
 ) -> bool
     requires { IsTrue (point_lt range.now.begin range.now.end) }
-    ensures value { result ≡ (nat_lt version (value_from 0 breaks.now.entries range.now.begin)
+    ensures { result ≡ (nat_lt version (value_from 0 breaks.now.entries range.now.begin)
         || list_any (λ entry. nat_lt version entry.1) (breaks_inside range.now breaks.now.entries)) }
-    ensures rising { AreRising breaks.now.entries }
 {
-    match version_throughout(breaks, range) {
-        Some(found) => version < found.version,
-        None => {
-            version < version_by(breaks, range.begin()) || is_newer_inside(breaks, range, version)
-        }
-    }
+    version < version_by(breaks, range.begin()) || is_newer_inside(breaks, range, version)
 }
 
 // Whether a breakpoint inside the range has a greater version.

@@ -6,7 +6,7 @@ ghost use Rattle.fdb_keys.specs.Removal.{range_between};
 ghost use Rattle.fdb_interval.specs.Breakpoints.{value_from, breaks_inside, AreRising};
 ghost use Rattle.fdb_interval.specs.Newer.{newer_pieces};
 
-use crate::breakpoints::{is_newer_by_keys, version_by};
+use crate::breakpoints::{is_newer_by_keys, version_between, version_by};
 use crate::keyed_range::KeyedRange;
 use crate::point_key::PointKey;
 use fdb_keys::{KeyRange, is_before, push_between};
@@ -14,12 +14,43 @@ use std::alloc::{AllocError, Global};
 use std::collections::BTreeMap;
 use std::ops::Bound;
 
-// Whether some point of the range, which has one, has a version above this one.
+// Whether some point of the range, which has one, has a version above this one. Mostly one look-up before its end tells.
 pub(crate) fn is_any_newer(breaks: &BTreeMap<PointKey, u64>, range: &KeyRange, version: u64) -> bool
     requires { IsTrue (point_lt range.now.begin range.now.end) }
     ensures value { result ≡ (nat_lt version (value_from 0 breaks.now.entries range.now.begin)
         || list_any (λ entry. nat_lt version entry.1) (breaks_inside range.now breaks.now.entries)) }
     ensures rising { AreRising breaks.now.entries }
+{
+    match PointKey::new(range.end_text()) {
+        Ok(end) => is_newer_before(breaks, range, &end, version),
+        Err(_) => is_newer_by_walk(breaks, range, version),
+    }
+}
+
+// The same, by the key of the range's end.
+fn is_newer_before(
+    breaks: &BTreeMap<PointKey, u64>,
+    range: &KeyRange,
+    end: &PointKey,
+    version: u64,
+) -> bool
+    requires some { IsTrue (point_lt range.now.begin range.now.end) }
+    requires end { end.now ≡ range.now.end }
+    ensures value { result ≡ (nat_lt version (value_from 0 breaks.now.entries range.now.begin)
+        || list_any (λ entry. nat_lt version entry.1) (breaks_inside range.now breaks.now.entries)) }
+    ensures rising { AreRising breaks.now.entries }
+{
+    match version_between(breaks, range.begin(), end) {
+        Some(found) => version < found,
+        None => is_newer_in_parts(breaks, range, version),
+    }
+}
+
+// The same, where a breakpoint may be inside the range.
+fn is_newer_in_parts(breaks: &BTreeMap<PointKey, u64>, range: &KeyRange, version: u64) -> bool
+    requires { IsTrue (point_lt range.now.begin range.now.end) }
+    ensures { result ≡ (nat_lt version (value_from 0 breaks.now.entries range.now.begin)
+        || list_any (λ entry. nat_lt version entry.1) (breaks_inside range.now breaks.now.entries)) }
 {
     match KeyedRange::new(range) {
         Ok(keyed) => is_newer_by_keys(breaks, &keyed, version),

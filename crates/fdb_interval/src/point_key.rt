@@ -4,11 +4,12 @@ ghost use Rattle.std.specs.Ordering.{nat_cmp};
 ghost use Rattle.std.specs.Cmp.Lexicographic.{pointwise, slice_cmp, nat_list_eq_equiv, nat_list_cmp_total};
 ghost use Rattle.std.specs.Cmp.Lexicographic.{texts_ties, texts_po};
 ghost use Rattle.std.specs.Cmp.{partial_equiv_from_equiv};
+ghost use Rattle.fdb_keys.specs.Points.{point_lt};
 ghost use Rattle.fdb_keys.specs.Texts.{is_bound, is_key};
 ghost use Rattle.fdb_interval.specs.Heads.{head_by, AreBytes};
 
 use bytes::Bytes;
-use fdb_keys::Key;
+use fdb_keys::{Key, is_before};
 use std::alloc::AllocError;
 use std::cmp::Ordering;
 use std::marker::Model;
@@ -66,6 +67,21 @@ impl PointKey {
         ensures legal { IsTrue (is_key key.now) }
     {
         PointKey::new(key.text())
+    }
+
+    // Whether the point comes after the text, of which it mostly needs the head alone.
+    #[tactic(auto, unfolding(fdb_keys::specs::Points::point_lt))]
+    pub(crate) fn is_after(&self, text: &[u8]) -> bool
+        ensures { result ≡ point_lt text.now self.now }
+    {
+        let head = head_of(text);
+        if head < self.head {
+            return true;
+        }
+        if self.head < head {
+            return false;
+        }
+        is_before(text, self.text.as_slice())
     }
 
     pub(crate) fn as_slice(&self) -> &[u8]
