@@ -213,8 +213,11 @@ fn push_all(list: &mut Items<KeyRange>, ranges: &RangeSet) -> Result<(), AllocEr
 fn set_of(alloc: Global, ranges: &Items<KeyRange>) -> Result<RangeSet, Refusal>
     ensures { Answers result None (λ set. set ≡ with_ranges ranges.now []) }
 {
-    let copies = ranges.clone()?.into_vec();
     let mut set = RangeSet::new(alloc);
+    if ranges.is_empty() {
+        return Ok(set);
+    }
+    let copies = ranges.clone()?.into_vec();
     set.add_all(copies)?;
     Ok(set)
 }

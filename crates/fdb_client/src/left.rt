@@ -7,6 +7,7 @@ use bytes::Bytes;
 use fdb_keys::{Items, Refusal};
 use fdb_mutations::Mutation;
 use std::alloc::{AllocError, Global};
+use std::marker::Model;
 
 #[derive(Drop)]
 pub(crate) enum Left {
@@ -70,7 +71,7 @@ impl Left {
     }
 
     // One mutation more, which isn't blind. Where memory runs out, nothing changes.
-    pub(crate) fn change(&mut self, alloc: Global, mutation: &Mutation) -> Result<(), Refusal>
+    fn change(&mut self, alloc: Global, mutation: &Mutation) -> Result<(), Refusal>
         requires { is_blind mutation.now ≡ false }
         ensures ok { Answers result None (λ _. self.new ≡ left_after self.old mutation.now) }
         ensures err { OnErr result (self.new ≡ self.old) }
@@ -83,6 +84,50 @@ impl Left {
                 Ok(())
             }
         }
+    }
+}
+
+// What is left at a key, in memory of its own. So a node of the tree of own writes, which has room for fifteen keys, is
+// small enough to be had again from those that were given back just before.
+#[derive(Drop)]
+pub(crate) struct Kept {
+    left: Box<Left>,
+}
+
+impl Model for Kept {
+    ghost use Rattle.fdb_client.specs.declared.left.Left.{Left};
+
+    ghost Value = { Left };
+
+    ghost view = { λ kept. kept.left.value };
+}
+
+impl Kept {
+    ghost use Rattle.std.specs.Prelude.{◌≡◌, false, None, IfOk, OnErr};
+    ghost use Rattle.fdb_keys.specs.Answers.{Answers};
+    ghost use Rattle.fdb_mutations.specs.Mutations.{is_blind};
+    ghost use Rattle.fdb_client.specs.OwnWrites.{left_after};
+
+    pub(crate) fn new(alloc: Global, left: Left) -> Result<Self, AllocError>
+        ensures { IfOk result (λ kept. kept ≡ left) }
+    {
+        let left = Box::new(alloc, left)?;
+        Ok(Kept { left })
+    }
+
+    pub(crate) fn left(&self) -> &Left
+        ensures { result.now ≡ self.now }
+    {
+        self.left.as_ref()
+    }
+
+    // One mutation more, which isn't blind. Where memory runs out, nothing changes.
+    pub(crate) fn change(&mut self, alloc: Global, mutation: &Mutation) -> Result<(), Refusal>
+        requires { is_blind mutation.now ≡ false }
+        ensures ok { Answers result None (λ _. self.new ≡ left_after self.old mutation.now) }
+        ensures err { OnErr result (self.new ≡ self.old) }
+    {
+        self.left.change(alloc, mutation)
     }
 }
 

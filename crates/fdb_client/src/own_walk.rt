@@ -1,5 +1,5 @@
 // The own writes of a range, one after another in the order in which it is read.
-use crate::left::Left;
+use crate::left::Kept;
 use crate::own_writes::OwnWrites;
 use bytes::Bytes;
 use fdb_keys::{Key, KeyRange, Refusal};
@@ -14,8 +14,8 @@ pub(crate) struct OwnWalk<'a> {
     range: &'a KeyRange,
     last: Option<&'a Bytes>,
     // The first entry behind that key, and those behind it.
-    next: Option<(&'a Bytes, &'a Left)>,
-    rest: btree_map::Range<'a, Bytes, Left>,
+    next: Option<(&'a Bytes, &'a Kept)>,
+    rest: btree_map::Range<'a, Bytes, Kept>,
 }
 
 impl<'a> OwnWalk<'a> {
@@ -55,7 +55,7 @@ impl<'a> OwnWalk<'a> {
     }
 
     // The next entry.
-    pub(crate) fn next(&self) -> Option<(&'a Bytes, &'a Left)>
+    pub(crate) fn next(&self) -> Option<(&'a Bytes, &'a Kept)>
         ensures { result ≡ self.now.next }
     {
         self.next
@@ -72,7 +72,7 @@ impl<'a> OwnWalk<'a> {
     }
 
     // What the next entry leaves, if it is that of the key.
-    pub(crate) fn left_at(&self, key: &Key) -> Option<&'a Left>
+    pub(crate) fn left_at(&self, key: &Key) -> Option<&'a Kept>
         ensures { (reverse : Bool) → option_copied result ≡ entry_at key.now (to_come reverse self.now) }
     {
         match self.next {

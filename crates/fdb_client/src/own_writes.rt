@@ -9,7 +9,7 @@ ghost use Rattle.fdb_keys.specs.Texts.{is_key};
 ghost use Rattle.fdb_client.specs.OwnWrites.{left_after, as_left, is_unreadable, is_value, part_by};
 ghost use Rattle.fdb_client.specs.declared.left.Left.TheVariants.{Changes};
 
-use crate::left::Left;
+use crate::left::{Kept, Left};
 use bytes::Bytes;
 use fdb_keys::{Key, KeyRange, RangeSet, Refusal, TreeRangeSet};
 use fdb_mutations::Mutation;
@@ -19,7 +19,7 @@ use std::collections::BTreeMap;
 #[derive(Drop)]
 pub(crate) struct OwnWrites {
     // What is left at a key, under the key's bytes.
-    pub(crate) keys: BTreeMap<Bytes, Left>,
+    pub(crate) keys: BTreeMap<Bytes, Kept>,
     // The keys that were cleared with a range. Nothing is left at one of them that isn't among `keys`.
     pub(crate) cleared: TreeRangeSet,
 }
@@ -31,10 +31,10 @@ pub(crate) enum LentLeft<'a> {
     Changes(&'a [Mutation]),
 }
 
-pub(crate) fn lent(left: &Left) -> LentLeft<'_>
+pub(crate) fn lent(left: &Kept) -> LentLeft<'_>
     ensures { as_left result ≡ left.now }
 {
-    match left {
+    match left.left() {
         Left::Value(Some(value)) => LentLeft::Value(Some(value)),
         Left::Value(None) => LentLeft::Value(None),
         Left::Unreadable(Some(value)) => LentLeft::Unreadable(Some(value)),
@@ -44,18 +44,18 @@ pub(crate) fn lent(left: &Left) -> LentLeft<'_>
 }
 
 // Whether the transaction can't read what is left.
-fn is_unreadable(left: &Left) -> bool
+fn is_unreadable(left: &Kept) -> bool
     ensures { result ≡ is_unreadable left.now }
 {
-    matches!(left, Left::Unreadable(_))
+    matches!(left.left(), Left::Unreadable(_))
 }
 
 // What of the range the entry of the key doesn't decide, of all that comes before the key and of the key itself.
-fn part_by(alloc: Global, range: &KeyRange, key: &Key, entry: &Left) -> Result<KeyRange, Refusal>
+fn part_by(alloc: Global, range: &KeyRange, key: &Key, entry: &Kept) -> Result<KeyRange, Refusal>
     requires { IsTrue (in_range range.now key.now) }
     ensures { Answers result None (λ part. part ≡ part_by range.now key.now entry.now) }
 {
-    match entry {
+    match entry.left() {
         Left::Value(_) | Left::Unreadable(_) => range.behind(alloc, true, key),
         Left::Changes(_) => range.through(alloc, false, key),
     }
@@ -66,7 +66,7 @@ fn cut_off(
     alloc: Global,
     range: &KeyRange,
     text: &Bytes,
-    entry: &Left,
+    entry: &Kept,
     parts: &mut Vec<KeyRange>,
 ) -> Result<KeyRange, Refusal>
     requires legal { IsTrue (is_key text.now) }
@@ -111,11 +111,18 @@ impl OwnWrites {
         requires { entry_of self.now key.now ≡ None }
         ensures { as_left result ≡ left_at self.now key.now }
     {
-        if self.cleared.contains(key) {
+        if self.is_cleared(key) {
             LentLeft::Value(None)
         } else {
             LentLeft::Changes(&[])
         }
+    }
+
+    // Whether the key was cleared with a range. Most transactions clear none, and then nothing is looked for.
+    fn is_cleared(&self, key: &Key) -> bool
+        ensures { result ≡ in_set self.now.cleared key.now }
+    {
+        !self.cleared.is_empty() && self.cleared.contains(key)
     }
 
     // Whether the writes decide the key.
@@ -129,7 +136,7 @@ impl OwnWrites {
     }
 
     // Leaves this at the key. Where memory runs out, nothing changes.
-    pub(crate) fn put(&mut self, key: &Key, left: Left) -> Result<(), Refusal>
+    fn put(&mut self, alloc: Global, key: &Key, left: Left) -> Result<(), Refusal>
         requires { HasLegalKeys self.old }
         ensures answers { Answers result None (λ _. (x : Point)
             → left_at self.new x ≡ (if point_eq x key.now then left else left_at self.old x)) }
@@ -137,8 +144,9 @@ impl OwnWrites {
         ensures legal_keys { HasLegalKeys self.new }
         ensures err { OnErr result ((x : Point) → left_at self.new x ≡ left_at self.old x) }
     {
+        let kept = Kept::new(alloc, left)?;
         let text = key.text().clone()?;
-        self.keys.insert(text, left)?;
+        self.keys.insert(text, kept)?;
         Ok(())
     }
 
@@ -158,14 +166,14 @@ impl OwnWrites {
     {
         if mutation.is_blind() {
             let made = Left::blind(alloc, mutation)?;
-            return self.put(key, made);
+            return self.put(alloc, key, made);
         }
         if let Some(left) = self.keys.get_mut(key.text()) {
             left.change(alloc, mutation)?;
             return Ok(());
         }
-        let left = Left::first(alloc, self.cleared.contains(key), mutation)?;
-        self.put(key, left)
+        let left = Left::first(alloc, self.is_cleared(key), mutation)?;
+        self.put(alloc, key, left)
     }
 
     // The keys of the range that have an entry.

@@ -16,7 +16,7 @@ ghost use Rattle.fdb_client.specs.OwnWalk.{IsAt, in_order, is_ahead, key_of, lef
 ghost use Rattle.fdb_client.specs.OwnWrites.{value_over};
 ghost use Rattle.fdb_client.specs.Pages.{IsPage};
 
-use crate::left::Left;
+use crate::left::Kept;
 use crate::own_walk::OwnWalk;
 use crate::own_writes::{OwnWrites, lent};
 use crate::reading::value_over;
@@ -55,7 +55,7 @@ impl<'a> RangeRead<'a> {
     }
 
     // The next entry of the walk, if it comes before the next key, or if there is no such key.
-    fn next_own<'p>(&self, walk: &OwnWalk<'p>, next: Option<&Key>) -> Option<(&'p Bytes, &'p Left)>
+    fn next_own<'p>(&self, walk: &OwnWalk<'p>, next: Option<&Key>) -> Option<(&'p Bytes, &'p Kept)>
         requires at { IsAt self.now.own.now self.now.reverse walk.now }
         requires next { LiesIn (left_of self.now.reverse walk.now) (option_copied next) }
         ensures first { IsFirstOwn self.now.own.now

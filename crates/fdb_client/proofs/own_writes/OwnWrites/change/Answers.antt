@@ -69,7 +69,7 @@ returns-clause-answers c =
     let key = c.args.key.now in
     let mutation = c.args.mutation.now in
     let absent : found own.keys.entries key ≡ None = search rules in
-    let cleared : c.contains.result ≡ in_set own.cleared key = search rules in
+    let cleared : c.is_cleared.result ≡ in_set own.cleared key = search rules in
     let left = c.in_ok-left.left in
     let same : c.get_mut.follows.lender-at-none.entries ≡ own.keys.entries = search rules in
     answers_also c.put-2.result _ _ (λ put x.
