@@ -2,7 +2,7 @@
 use super::begin;
 use crate::asserting::same;
 use bytes::Bytes;
-use fdb_client::{Page, PlainSnapshot, Snapshot};
+use fdb_client::{Page, PlainSnapshot, Snapshot, Txn};
 use fdb_keys::{Key, KeyRange, Refusal};
 use fdb_making::{apply, coded, made_of};
 use fdb_mutations::{Mutation, PlainMap};
@@ -89,12 +89,16 @@ const ROWS: &[Row] = &[
     },
 ];
 
-// How many pages the read asks for, and how many pairs it is given.
-fn read_one(alloc: Global, map: &PlainMap, row: Row) -> Result<(u32, usize), Refusal> {
-    let all = KeyRange::new(alloc, &[1], &[200])?;
+// How many pages a read of the range for one pair asks for, once the transaction has cleared that, and how many pairs it
+// is given.
+fn read_in(
+    txn: &mut Txn,
+    map: &PlainMap,
+    cleared: Mutation,
+    range: &KeyRange,
+    reverse: bool,
+) -> Result<(u32, usize), Refusal> {
     let pages = AtomicU32::new(0);
-    let mut txn = begin(alloc);
-    let cleared = Mutation::clear_range(alloc, row.cleared.0, row.cleared.1)?;
     txn.write(cleared)?;
     let plain = PlainSnapshot {
         version: txn.read_version(),
@@ -104,8 +108,18 @@ fn read_one(alloc: Global, map: &PlainMap, row: Row) -> Result<(u32, usize), Ref
         plain,
         pages: &pages,
     };
-    let pairs = txn.get_range(&counted, &all, 1, row.reverse, false)?;
+    let pairs = txn.get_range(&counted, range, 1, reverse, false)?;
     Ok((pages.load(Ordering::SeqCst), pairs.len()))
+}
+
+// The same of a row, in a transaction that is lent, so that no exit on the way drops it.
+fn read_one(alloc: Global, map: &PlainMap, row: Row) -> Result<(u32, usize), Refusal> {
+    let all = KeyRange::new(alloc, &[1], &[200])?;
+    let cleared = Mutation::clear_range(alloc, row.cleared.0, row.cleared.1)?;
+    let mut txn = begin(alloc);
+    let found = read_in(&mut txn, map, cleared, &all, row.reverse);
+    drop(txn);
+    found
 }
 
 #[test]

@@ -36,10 +36,11 @@ loop-range-preserved c =
     record {
       rising = (c.in_ok-add_range.ensures known.0 known.1 before.0 known.2 before.1).rising;
       so_far = λ n last are.
-          let sooner = c.loop-range.invariant.so_far n last are in
-          (λ i x. sooner.0 i x || (in_range c.in-Some-range.range.now x && owned i x),
-          c.in_ok-add_range.ensures n last sooner.0 are sooner.1,
-          λ i x. spread-next (sooner.0 i x) (owned i x) c.in-Some-range.range.now _ _ x _ (search rules) (sooner.2 i x));
+          let sooner = c.loop-range.invariant.so_far n last are in (
+            λ i x. sooner.0 i x || (in_range c.in-Some-range.range.now x && owned i x),
+            c.in_ok-add_range.ensures n last sooner.0 are sooner.1,
+            λ i x. spread-next (sooner.0 i x) (owned i x) c.in-Some-range.range.now _ _ x _ (search rules) (sooner.2 i x),
+          );
     }
 
 pub returns : goal.returns
