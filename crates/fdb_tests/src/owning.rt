@@ -80,7 +80,10 @@ fn are_parts(parts: &[Owned], wanted: &[PartOf]) -> bool {
 
 // Whether the call gave just those parts.
 fn gave(answer: Result<Items<Owned>, Refusal>, wanted: &[PartOf]) -> Result<bool, u32> {
-    ask(answer, |parts| are_parts(parts.as_slice(), wanted))
+    match answer {
+        Ok(parts) => Ok(are_parts(parts.as_slice(), wanted)),
+        Err(why) => Err(why.code()),
+    }
 }
 
 // Those who owned the key p at some version above `from` and at most `version`.
