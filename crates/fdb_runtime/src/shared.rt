@@ -55,8 +55,8 @@ pub(crate) struct Shared<B: DatabaseName> {
 }
 
 impl<B: DatabaseName> Shared<B> {
-    /// The state of a database in which nothing happened. Refused as `BadConfig` where the configuration isn't legal, and
-    /// as `NoMemory`.
+    /// The state of a database in which nothing happened. Refused as `BadConfig` where the configuration isn't legal,
+    /// and as `NoMemory`.
     pub(crate) fn new<R: Wait>(
         rt: &R,
         alloc: Global,
@@ -324,7 +324,7 @@ fn make_shards<B: DatabaseName>(
     Ok(made)
 }
 
-// The resolvers and the commit proxies, which took nothing, and of which each is tied to each by a channel for verdicts.
+// The resolvers and the commit proxies, which took nothing, each tied to each of the others by a channel for verdicts.
 // Refused only as `NoMemory`.
 fn make_tied<B: DatabaseName, R: Wait>(
     rt: &R,
