@@ -1,11 +1,14 @@
 -- What a transcript was answered, operation by operation.
 use Rattle.std.proofs.Common.{◌≡◌, ◌∙◌, sym, ap, subst, refl, ℕ, ◌+◌, Bool, true, false, ◌&&◌, ◌↔◌, List, [], ◌∷◌, ◌++◌}
-use Rattle.std.proofs.Common.{take, drop, append_assoc, append-nil, take-append-drop, Option, Some}
+use Rattle.std.proofs.Common.{take, drop, append_assoc, append-nil, take-append-drop, Option, Some, ◌≤◌, ◌-◌, arith}
+use Rattle.std.proofs.Math.Seq.{take-add}
+use Rattle.std.specs.List.{slice_range}
 use Rattle.std.specs.Prelude.{nat_eq}
 use Rattle.std.specs.Bool.{Decides}
 use Rattle.std.specs.Cmp.Lexicographic.{pointwise, bytes_decides}
 use Rattle.std.specs.FinMap.{get}
 use Rattle.std.specs.List.{slice_get}
+use Rattle.std.proofs.lemmas.Bool.{both_ways}
 use Rattle.std.proofs.lemmas.Bool.Decides.{Decides-and}
 use Rattle.std.proofs.lemmas.List.{take_more}
 use Rattle.std.proofs.lemmas.Option.{slice_get_within, get_or_from_slice_get}
@@ -21,7 +24,9 @@ use Rattle.fdb_client.specs.declared.program.Op.TheVariants as operation
 use Rattle.fdb_client.specs.declared.program.Reply.{Reply}
 use Rattle.fdb_client.specs.declared.program.Reply.TheVariants.{Value, Pairs}
 use Rattle.fdb_client.specs.ProgramLaws.{is_ordinary, AgreeWhereOrdinary}
-use Rattle.fdb_client.specs.Programs.{program, copy, reply_on, exec, replies_of}
+use Rattle.fdb_client.specs.Programs.{program, copy, reply_on, exec, replies_of, is_ordinary_read}
+use Rattle.fdb_client.specs.TxnState.{AreWritesOf}
+use Rattle.fdb_client.specs.declared.own_writes.OwnWrites.{OwnWrites}
 use Rattle.fdb_client.proofs.ProgramLemmas.{program-push, replies-push}
 
 -- the operation, if it is an ordinary one, was answered as on the copy of the map after the earlier ones
@@ -39,10 +44,71 @@ one-more ops i done there =
     take_more ops i done (slice_get_within ops i done there)
     ∙ ap (λ (one : Op × Reply). take i ops ++ one ∷ []) (get_or_from_slice_get ops i done done there)
 
+-- the first ones with those that follow, up to a number
+pub taken-through : (ops : List (Op × Reply)) (i n : ℕ) → i ≤ n → take i ops ++ slice_range ops i n ≡ take n ops
+taken-through ops i n within =
+    sym (take-add i (n - i) ops)
+    ∙ ap (λ (k : ℕ). take k ops) (omega (arith, within))
+
 -- the program of the first operations with one more
 pub program-next : (ops : List (Op × Reply)) (i : ℕ) (done : Op × Reply) → slice_get ops i ≡ Some done
     → program (take (i + 1) ops) ≡ done.0 ∷ program (take i ops)
 program-next ops i done there = ap program (one-more ops i done there) ∙ program-push (take i ops) done
+
+-- and their replies
+pub replies-next : (ops : List (Op × Reply)) (i : ℕ) (done : Op × Reply) → slice_get ops i ≡ Some done
+    → replies_of (take (i + 1) ops) ≡ done.1 ∷ replies_of (take i ops)
+replies-next ops i done there = ap replies_of (one-more ops i done there) ∙ replies-push (take i ops) done
+
+-- and the program of earlier ones with those that follow, with one more
+pub program-after : (earlier ops : List (Op × Reply)) (i : ℕ) (done : Op × Reply) → slice_get ops i ≡ Some done
+    → program (earlier ++ take (i + 1) ops) ≡ done.0 ∷ program (earlier ++ take i ops)
+program-after earlier ops i done there =
+    ap (λ (more : List (Op × Reply)). program (earlier ++ more)) (one-more ops i done there)
+    ∙ ap program (sym (append_assoc earlier (take i ops) (done ∷ [])))
+    ∙ program-push (earlier ++ take i ops) done
+
+-- the reply to an ordinary operation that reads nothing hangs on no map
+pub reply-unread : (m n : Map) (op : Op) → is_ordinary_read op ≡ false → is_ordinary op ≡ true
+    → reply_on m op ≡ reply_on n op
+reply-unread m n (Get key true) unread ordinary = absurd (both_ways _ refl ordinary)
+reply-unread m n (Get key false) unread ordinary = absurd (both_ways _ unread refl)
+reply-unread m n (operation.Range range limit is_reverse true) unread ordinary = absurd (both_ways _ refl ordinary)
+reply-unread m n (operation.Range range limit is_reverse false) unread ordinary = absurd (both_ways _ unread refl)
+reply-unread m n (operation.Write mutation) unread ordinary = refl
+reply-unread m n (operation.AddRead range) unread ordinary = refl
+reply-unread m n (operation.AddWrite range) unread ordinary = refl
+
+-- so it was answered on the copy after some operations just where it was on that after others
+pub answered-unread : (map : Map) (some_ops ops : List (Op × Reply)) (done : Op × Reply)
+    → is_ordinary_read done.0 ≡ false → AnsweredNext map some_ops done → AnsweredNext map ops done
+answered-unread map some_ops ops done unread answered ordinary =
+    answered ordinary ∙ reply-unread (copy map (program some_ops)) (copy map (program ops)) done.0 unread ordinary
+
+-- What is kept of the first operations' writes answers the one with the number: it has all writes before that, or that
+-- one reads nothing.
+abbrev pub IsReady : Map → List (Op × Reply) → ℕ → Op × Reply → OwnWrites → List Range → ℕ → Type 0
+IsReady map ops number done own writes added =
+    (added ≤ number)
+    × AreWritesOf (program (take added ops)) own writes
+    × (AnsweredNext map (take added ops) done ↔ AnsweredNext map (take number ops) done)
+
+pub ready-read : (map : Map) (ops : List (Op × Reply)) (number : ℕ) (done : Op × Reply) (own : OwnWrites)
+    (writes : List Range) → AreWritesOf (program (take number ops)) own writes
+    → IsReady map ops number done own writes number
+ready-read map ops number done own writes are = (omega (arith), are, (λ answered. answered, λ answered. answered))
+
+pub ready-unread : (map : Map) (ops : List (Op × Reply)) (number : ℕ) (done : Op × Reply) (own : OwnWrites)
+    (writes : List Range) (added : ℕ) → is_ordinary_read done.0 ≡ false → added ≤ number
+    → AreWritesOf (program (take added ops)) own writes → IsReady map ops number done own writes added
+ready-unread map ops number done own writes added unread earlier are = (
+  earlier,
+  are,
+  (
+    answered-unread map (take added ops) (take number ops) done unread,
+    answered-unread map (take number ops) (take added ops) done unread,
+  ),
+)
 
 -- one operation more
 answered-push : (map : Map) (ops : List (Op × Reply)) (done : Op × Reply)

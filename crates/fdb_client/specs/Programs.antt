@@ -47,6 +47,14 @@ reply_on map (Write mutation) = Done
 reply_on map (AddRead range) = Done
 reply_on map (AddWrite range) = Done
 
+-- the operation reads a key or a range, and isn't a snapshot read
+abbrev pub is_ordinary_read : Op → Bool
+is_ordinary_read (Get key snapshot) = not snapshot
+is_ordinary_read (operation.Range range limit is_reverse snapshot) = not snapshot
+is_ordinary_read (Write mutation) = false
+is_ordinary_read (AddRead range) = false
+is_ordinary_read (AddWrite range) = false
+
 -- the replies of the program on a map, the newest first
 abbrev pub exec : Map → List Op → List Reply
 exec map [] = []

@@ -11,7 +11,7 @@ use crate::buffering::buffer;
 use crate::conflict_set::ConflictSet;
 use crate::own_writes::OwnWrites;
 use crate::plain_snapshot::PlainSnapshot;
-use crate::program::{Op, Reply, Transcript};
+use crate::program::{Op, Reply, Transcript, is_ordinary_read};
 use crate::range_read::pairs_of;
 use crate::reading::value_of;
 use bytes::Bytes;
@@ -19,7 +19,7 @@ use fdb_keys::{Items, Key, Refusal};
 use fdb_mutations::PlainMap;
 use std::alloc::Global;
 
-// What the operations so far write, so that each later one is answered without going over them again.
+// What the first operations write, so that a later read is answered without going over them again.
 #[derive(Drop)]
 struct Written {
     alloc: Global,
@@ -28,12 +28,13 @@ struct Written {
 }
 
 impl Written {
-    ghost use Rattle.std.specs.Prelude.{◌≡◌, ◌↔◌, true, List, [], ◌∷◌, IsTrue, None};
+    ghost use Rattle.std.specs.Prelude.{◌≡◌, ◌↔◌, true, List, [], ◌∷◌, ◌++◌, IsTrue, None};
     ghost use Rattle.fdb_keys.specs.Answers.{Answers};
     ghost use Rattle.fdb_client.specs.ProgramLaws.{is_ordinary};
-    ghost use Rattle.fdb_client.specs.Programs.{copy, reply_on};
+    ghost use Rattle.fdb_client.specs.Programs.{program, copy, reply_on};
     ghost use Rattle.fdb_client.specs.TxnState.{AreWritesOf};
     ghost use Rattle.fdb_client.specs.declared.program.Op.{Op as Operation};
+    ghost use Rattle.fdb_client.specs.declared.program.Reply.{Reply as Answer};
 
     // No operation yet.
     fn new(alloc: Global) -> Self
@@ -57,6 +58,18 @@ impl Written {
             Op::AddWrite(range) => self.writes.add(range),
             Op::Get { .. } | Op::Range { .. } | Op::AddRead(_) => Ok(()),
         }
+    }
+
+    // The operations that follow.
+    fn add_all(&mut self, ops: &[(Op, Reply)]) -> Result<(), Refusal>
+        requires { (earlier : List (Operation × Answer)) × AreWritesOf (program earlier) self.old.own self.old.writes }
+        ensures { (earlier : List (Operation × Answer)) → AreWritesOf (program earlier) self.old.own self.old.writes
+            → Answers result None (λ _. AreWritesOf (program (earlier ++ ops.now)) self.new.own self.new.writes) }
+    {
+        for (op, _) in ops {
+            self.add(op)?;
+        }
+        Ok(())
     }
 
     // Whether the operation, if it is an ordinary one, was answered as on the map after those so far.
@@ -109,8 +122,9 @@ fn is_pairs(reply: &Reply, pairs: &Items<(Key, Bytes)>) -> bool
 
 /// Whether each ordinary operation of the transcript was answered as its program, run from its first operation on a
 /// copy of the map, answers it there. What snapshot reads were answered doesn't matter. Refused only as `NoMemory`. It
-/// takes what a transaction takes for the same operations: for each O(log n) comparisons of keys for n operations and
-/// as many for the map, and what a read of a range gives and skips.
+/// takes at most what a transaction takes for the same operations: for each O(log n) comparisons of keys for n
+/// operations and as many for the map, and what a read of a range gives and skips. An operation after the last ordinary
+/// read takes O(1) time.
 pub fn is_answered_on(
     alloc: Global,
     map: &PlainMap,
@@ -124,12 +138,18 @@ pub fn is_answered_on(
         version: transcript.read_version,
         map,
     };
+    let ops = transcript.ops.as_slice();
     let mut written = Written::new(alloc);
-    for (op, reply) in transcript.ops.as_slice() {
+    // Only a read asks what was written, so the operations before it are added once it comes.
+    let mut added = 0;
+    for (number, (op, reply)) in ops.iter().enumerate() {
+        if is_ordinary_read(op) {
+            written.add_all(&ops[added..number])?;
+            added = number;
+        }
         if !written.is_answered(&snapshot, op, reply)? {
             return Ok(false);
         }
-        written.add(op)?;
     }
     Ok(true)
 }

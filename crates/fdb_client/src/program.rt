@@ -1,4 +1,5 @@
 ghost use Rattle.std.specs.Prelude.{◌≡◌};
+ghost use Rattle.fdb_client.specs.Programs.{is_ordinary_read};
 
 use bytes::Bytes;
 use fdb_keys::{Items, Key, KeyRange};
@@ -70,6 +71,17 @@ impl Clone for Op {
                 Ok(Op::AddWrite(range))
             }
         }
+    }
+}
+
+// Whether it is a read that isn't a snapshot read. The reply to any other ordinary operation hangs on no map, and what
+// any other one adds to the read set hangs on no earlier operation.
+pub(crate) fn is_ordinary_read(op: &Op) -> bool
+    ensures { result ≡ is_ordinary_read op.now }
+{
+    match op {
+        Op::Get { snapshot, .. } | Op::Range { snapshot, .. } => !*snapshot,
+        Op::Write(_) | Op::AddRead(_) | Op::AddWrite(_) => false,
     }
 }
 

@@ -1,5 +1,5 @@
 // What a transcript asks to commit, beside a transaction that stands in a book.
-ghost use Rattle.std.specs.Prelude.{◌≡◌, ◌↔◌, List, [], None, true, IsTrue};
+ghost use Rattle.std.specs.Prelude.{◌≡◌, ◌↔◌, ◌++◌, List, [], None, true, IsTrue};
 ghost use Rattle.fdb_keys.specs.Answers.{Answers};
 ghost use Rattle.fdb_keys.specs.Insertion.{with_range};
 ghost use Rattle.fdb_mutations.specs.Maps.{Map};
@@ -7,13 +7,14 @@ ghost use Rattle.fdb_mutations.specs.Mutations.{named_range};
 ghost use Rattle.fdb_mutations.specs.PairLaws.{given_of};
 ghost use Rattle.fdb_mutations.specs.Pairs.{scanned};
 ghost use Rattle.fdb_client.specs.declared.program.Op.{Op};
+ghost use Rattle.fdb_client.specs.declared.program.Reply.{Reply};
 ghost use Rattle.fdb_client.specs.Programs.{program, replies_of, exec, reply_on, add_scanned, add_reads, add_decided};
 ghost use Rattle.fdb_client.specs.Programs.{add_writes, add_mutation, decided_ranges, read_ranges, write_ranges};
 ghost use Rattle.fdb_client.specs.Programs.{mutations_of, commit_request_of};
 ghost use Rattle.fdb_client.specs.ProgramLaws.{is_ordinary, AgreeWhereOrdinary};
 
 use crate::conflict_set::ConflictSet;
-use crate::program::{Op, Reply, Transcript};
+use crate::program::{Op, Reply, Transcript, is_ordinary_read};
 use crate::reading::undecided_part;
 use bytes::Bytes;
 use fdb_keys::{Items, Key, KeyRange, RangeSet, Refusal, TreeRangeSet};
@@ -133,6 +134,21 @@ fn add_settled(alloc: Global, decided: &mut TreeRangeSet, op: &Op) -> Result<(),
     }
 }
 
+// Adds what the operations decide, which follow on those whose decided keys these are.
+fn add_all_settled(
+    alloc: Global,
+    decided: &mut TreeRangeSet,
+    ops: &[(Op, Reply)],
+) -> Result<(), Refusal>
+    ensures { (earlier : List (Op × Reply)) → decided.old ≡ decided_ranges (program earlier)
+        → Answers result None (λ _. decided.new ≡ decided_ranges (program (earlier ++ ops.now))) }
+{
+    for (op, _) in ops {
+        add_settled(alloc, decided, op)?;
+    }
+    Ok(())
+}
+
 // Adds what a read of the range scanned, by the pairs that it was given, and no earlier operation decided.
 fn add_scan(
     alloc: Global,
@@ -205,9 +221,14 @@ fn read(alloc: Global, ops: &[(Op, Reply)]) -> Result<ConflictSet, Refusal>
 {
     let mut reads = ConflictSet::new(alloc);
     let mut decided = TreeRangeSet::new(alloc);
-    for (op, reply) in ops {
+    // Only a read asks what was decided, so what the operations before it decide is added once it comes.
+    let mut settled = 0;
+    for (number, (op, reply)) in ops.iter().enumerate() {
+        if is_ordinary_read(op) {
+            add_all_settled(alloc, &mut decided, &ops[settled..number])?;
+            settled = number;
+        }
         add_read(alloc, &mut reads, &decided, op, reply)?;
-        add_settled(alloc, &mut decided, op)?;
     }
     Ok(reads)
 }
@@ -254,7 +275,8 @@ fn has_parts(
 
 /// Whether the transaction is just what the transcript asks to commit: it has the transcript's id and read version,
 /// the read set and the write set of its operations, and their mutations in order. The transcript's ordinary operations
-/// were answered as on some map. Refused only as `NoMemory`.
+/// were answered as on some map. Refused only as `NoMemory`. It takes O(n log n) comparisons of bounds for n operations
+/// and ranges that they read, beside the bytes of the mutations.
 pub fn is_request_of(
     alloc: Global,
     transaction: &Sealed,
@@ -277,7 +299,8 @@ pub fn is_request_of(
     ))
 }
 
-/// Whether the transcript wrote nothing: it has no mutation, and its write set is empty. Refused only as `NoMemory`.
+/// Whether the transcript wrote nothing: it has no mutation, and its write set is empty. Refused only as `NoMemory`. It
+/// takes O(n) time for n operations.
 pub fn has_written_nothing(alloc: Global, transcript: &Transcript) -> Result<bool, Refusal>
     ensures { Answers result None (λ nothing. IsTrue nothing
         ↔ ((mutations_of (program transcript.now.ops) ≡ []) × (write_ranges (program transcript.now.ops) ≡ []))) }
