@@ -1,5 +1,5 @@
 //! A resolver that threads share.
-ghost use Rattle.std.specs.Prelude.{◌≡◌, [], ⊤, length, None, IfOk};
+ghost use Rattle.std.specs.Prelude.{◌≡◌, [], ⊤, suc, length, None, IfOk};
 ghost use Rattle.fdb_keys.specs.Answers.{Answers};
 
 use crate::gate::{Pass, Role};
@@ -74,14 +74,15 @@ impl<B: DatabaseName> ResolverRole<B> {
         }
     }
 
-    // Ties the next commit proxy to the resolver, by a channel for verdicts, and gives the end at which these come.
-    // Refused only as `NoMemory`.
+    // Ties the next commit proxy to the resolver, by a channel for verdicts, and gives the end at which these come. The
+    // resolver keeps the other end, after those that it had. Refused only as `NoMemory`.
     fn tie<R: Wait>(
         &mut self,
         rt: &R,
         alloc: Global,
     ) -> Result<Receiver<Option<VerdictMessage<B>>>, Refusal>
-        ensures { Answers result None (λ _. ⊤) }
+        ensures answers { Answers result None (λ _. ⊤) }
+        ensures kept { IfOk result (λ _. length self.new.verdicts.items ≡ suc (length self.old.verdicts.items)) }
     {
         let (to, from) = roomy(rt, alloc, 1)?;
         self.verdicts.push(to)?;
