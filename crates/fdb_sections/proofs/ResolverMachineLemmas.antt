@@ -41,7 +41,9 @@ module _ {B : Type 0} (it : ResolverMachine B) (sent : SentPart B) (none : it.tu
 
   -- the parts that wait, with this one unless one with its number does
   abbrev early : FinMap nat_cmp (SentPart B)
-  early = if is_none (get it.early sent.message.part.prev) then insert it.early sent.message.part.prev sent else it.early
+  early =
+      let prev = sent.message.part.prev in
+      if is_none (get it.early prev) then insert it.early prev sent else it.early
 
   found : finding (keeping it sent) ≡ record it { early = remove early version; turn = get early version }
   found = cond-true (is_none it.turn) _ _ (ap is_none none)

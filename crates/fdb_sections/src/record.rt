@@ -141,8 +141,8 @@ impl<B: DatabaseName> Record<B> {
         self.pairs.as_slice()
     }
 
-    /// Says that the front is a book of transactions that the database allows, each answered as on the serial map at its
-    /// read version, and does nothing else. It takes no memory, and O(1) time.
+    /// Says that the front is a book of transactions that the database allows, each answered as on the serial map at
+    /// its read version, and does nothing else. It takes no memory, and O(1) time.
     pub fn know_allowed(&self)
         ensures { ∥ IsBookOf B.allows B.config.resolver_splits self.now.front ∥₁ }
     {

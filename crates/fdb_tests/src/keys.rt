@@ -529,7 +529,8 @@ fn range_of_a_prefix_ends_behind_all_that_begin_with_it(rt: HostRuntime) {
     same(&rt, found, [all, all, all, all, Ok([true, true, false])]);
 }
 
-// Whether it may be tried anew, and whether it may be committed, and the code that is left of it and what it handed back.
+// Whether it may be tried anew, and whether it may be committed, and the code that is left of it and what it handed
+// back.
 fn retries_of(why: Refusal) -> (bool, bool, u32) {
     let refused = Refused { why, back: 7u8 };
     (

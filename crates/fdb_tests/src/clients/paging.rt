@@ -89,8 +89,8 @@ const ROWS: &[Row] = &[
     },
 ];
 
-// How many pages a read of the range for one pair asks for, once the transaction has cleared that, and how many pairs it
-// is given.
+// How many pages a read of the range for one pair asks for, once the transaction has cleared that, and how many pairs
+// it is given.
 fn read_in(
     txn: &mut Txn,
     map: &PlainMap,

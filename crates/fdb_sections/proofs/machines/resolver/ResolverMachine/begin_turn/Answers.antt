@@ -10,8 +10,9 @@ use Rattle.fdb_sections.proofs.machines.resolver.ResolverMachine.begin_turn.Goal
 pub returns : goal.returns
 returns g c =
     let it = c.args.self.now in
-    let others : c.ready.new.self ≡ remove it.early (last_version it.at.front) =
+    let version = last_version it.at.front in
+    let others : c.ready.new.self ≡ remove it.early version =
     c.ready.ensures.others ∙ ap (remove it.early) c.version.ensures in
-    let first : c.unwrap_or-first.result ≡ unwrap_or (get it.early (last_version it.at.front)) c.args.sent = search rules in
+    let first : c.unwrap_or-first.result ≡ unwrap_or (get it.early version) c.args.sent = search rules in
     ap₂ (λ waiting turn. record it { early = waiting; turn = Some turn }) others first
     ∙ turn-now it c.args.sent c.requires.none c.requires.comes
